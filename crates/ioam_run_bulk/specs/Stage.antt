@@ -2,7 +2,7 @@
 use Rattle.std.specs.Prelude.{◌≡◌, ℕ, ◌+◌, ◌-◌, ◌≤◌, ⊤, Bool, true, false, List, [], ◌∷◌}
 use Rattle.std.specs.Borrow.{MutBor}
 use Rattle.ioam_run_arrivals.specs.declared.forwarding.Forwarding.{Forwarding}
-use Rattle.ioam_stream.specs.Stage.{Kind, Seen, How, Ended, Handed}
+use Rattle.ioam_stream.specs.Stage.{Kind, Seen}
 use Rattle.ioam_run_bulk.specs.Load.{IsSet, Loads}
 use Rattle.ioam_run_bulk.specs.Promise.{IsReport, MayReport}
 use Rattle.ioam_run_bulk.specs.declared.stage.Generating.{Generating}
@@ -26,10 +26,14 @@ module _ {F : Type 0} where
   StandsIn false stage so_far = (so_far ≡ [] ∷ []) × HasTaken stage.taken stage × (stage.taken ≤ stage.terms.count)
   StandsIn true stage so_far = SaysOne (IsReport stage.terms.seed stage.terms.count) so_far
 
-  -- of all arrivals, since no read can fail
-  abbrev pub Says : Generating F → How → List (List ℕ) → Type 0
-  Says begun Ended so = SaysOne (IsReport begun.terms.seed begun.terms.count) so
-  Says begun Handed so = ⊥
+  -- of all arrivals, whatever was handed to it
+  abbrev pub Says : Generating F → List (List ℕ) → Type 0
+  Says begun = SaysOne (IsReport begun.terms.seed begun.terms.count)
+
+-- what may still be handed to a stage that never asks for it, and doesn't look at it: once something
+abbrev pub unfed : Bool → ℕ
+unfed false = 1
+unfed true = 0
 
 module _ {F : Type 0} (Pre : F → MutBor Forwarding → Type 0) (Post : F → MutBor Forwarding → Unit {0} → MutBor Forwarding → Type 0) where
   -- none was taken
@@ -43,7 +47,6 @@ module _ {F : Type 0} (Pre : F → MutBor Forwarding → Type 0) (Post : F → M
   pub record Sends (begun : Generating F) (seen : Seen) (so_far : List (List ℕ)) (stage : Generating F) : Type 0 where
     pub set : IsSet Pre Post stage.terms
     pub same : stage.terms ≡ begun.terms
-    pub uncut : seen.cut ≡ false
     pub says : StandsIn stage.said stage so_far
 
   abbrev pub kind : Kind (Generating F)
@@ -52,13 +55,13 @@ module _ {F : Type 0} (Pre : F → MutBor Forwarding → Type 0) (Post : F → M
     width = λ begun. 1;
     fresh = IsFresh;
     stands = Sends;
-    texts = λ begun stage how contents. Says begun how;
+    texts = λ begun stage how contents. Says begun;
     firsts = λ begun contents. SaysOne (MayReport begun.terms.seed begun.terms.count);
     sealed = λ begun contents so. ⊥;
     parts = λ begun contents. SaysOne (MayReport begun.terms.seed begun.terms.count);
     drains = λ stage. ⊤;
     marks = λ stage ended. ⊤;
-    waits = λ stage input. ⊥;
+    waits = λ stage input. stage.fed ≡ false;
     held = λ stage. held_in stage.said (stage.terms.count - stage.taken);
-    room = λ stage. 0;
+    room = λ stage. unfed stage.fed;
   }

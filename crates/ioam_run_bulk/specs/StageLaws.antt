@@ -31,7 +31,7 @@ module _ {F : Type 0} (Pre : F → MutBor Forwarding → Type 0) (Post : F → M
   abbrev pub lawful : Lawful (kind Pre Post)
   lawful = record {
     begins = λ begun seen so_far stage contents covers stands. inl (leading stage begun seen so_far contents covers stands);
-    waits = λ stage input never. absurd never;
+    waits = λ stage input waits. leading stage;
     none = λ begun contents fresh. ([] ∷ [], refl, ([], inl refl, refl));
     parts = λ begun contents so firsts. firsts;
     sealed = λ begun contents so never. absurd never;

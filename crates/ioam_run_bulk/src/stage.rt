@@ -25,6 +25,8 @@ pub(crate) struct Generating<'r, 'd, 's, F> {
     load: Load,
     // whether the sums were said
     said: bool,
+    // whether something was handed to it, which it never asks for and doesn't look at
+    fed: bool,
 }
 
 impl<'r, 'd, 's, F: Fn(&mut Forwarding)> Generating<'r, 'd, 's, F> {
@@ -44,6 +46,7 @@ impl<'r, 'd, 's, F: Fn(&mut Forwarding)> Generating<'r, 'd, 's, F> {
             taken: 0,
             load,
             said: false,
+            fed: false,
         })
     }
 }
@@ -80,10 +83,13 @@ impl<'r, 'd, 's, F: Fn(&mut Forwarding)> Stage for Generating<'r, 'd, 's, F> {
     }
 
     fn feed(&mut self, _input: usize, _octets: &[u8]) -> Result<(), NoMemory> {
+        self.fed = true;
         Ok(())
     }
 
-    fn end(&mut self, _input: usize) {}
+    fn end(&mut self, _input: usize) {
+        self.fed = true;
+    }
 
     fn cut(&mut self, _input: usize) {}
 

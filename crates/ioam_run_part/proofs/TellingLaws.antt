@@ -1,6 +1,5 @@
 -- A text that is said part by part, and what a run leaves of it.
 use Rattle.std.proofs.Common.{◌≡◌, ℕ, ◌<◌, Bool, true, false, IsTrue, IsSomeAnd, List, [], ◌∷◌, ◌++◌, length, get_or, set, Option, None, Some, refl, sym, ap, ◌∙◌, subst, inl, inr, append-nil, append_assoc, arith}
-use Rattle.std.proofs.lemmas.Bool.{true≢false}
 use Rattle.ioam_base.specs.Octets.{IsFront}
 use Rattle.ioam_desk.specs.Desk.{Writing, holds}
 use Rattle.ioam_desk.specs.Touches.{State}
@@ -8,11 +7,11 @@ use Rattle.ioam_desk_outputs.specs.Held.{HoldTexts, HoldFronts}
 use Rattle.ioam_desk_outputs.specs.Told.{Adds, said_more}
 use Rattle.ioam_desk_outputs.specs.declared.output.Output.{Output}
 use Rattle.ioam_run_part.specs.Stored.{AnswersWrites, HoldsFrontOf, Stores}
-use Rattle.ioam_run_part.specs.Telling.{Leaves, Puts, TellsBy, TellsFront, held_by, kind, stored_by}
+use Rattle.ioam_run_part.specs.Telling.{IsTelling, Leaves, Puts, Tells, TellsFront, held_by, kind, stored_by, unfed}
 use Rattle.ioam_run_part.specs.declared.telling.Telling.{Telling}
-use Rattle.ioam_stream.specs.Frame.{Frame, HoldSome}
+use Rattle.ioam_stream.specs.Frame.{Frame, HoldAll, HoldSome}
 use Rattle.ioam_stream.specs.Frame as frame_of
-use Rattle.ioam_stream.specs.Stage.{Begins, Ends, Takes}
+use Rattle.ioam_stream.specs.Stage.{Begins, Ends, Feeds, Seen, Takes, How, Ended, Handed}
 use Rattle.ioam_stream.specs.declared.conversion.Tail.{Tail}
 use Rattle.ioam_stream.specs.declared.conversion.Tail.TheVariants as tail
 use Rattle.ioam_stream.specs.declared.reading.Stop.{Stop}
@@ -44,12 +43,11 @@ module _ {T : Type 0} (says : T → List ℕ → Type 0) (left : T → ℕ) wher
     λ fresh. record {
       said = [];
       is = refl;
-      uncut = refl;
       leaves = λ text t. subst (λ (b : Bool). Leaves says left b stage.source [] text) (sym fresh) (text, t, refl);
     },
   )
 
-  module _ (old new : Telling T) (outputs : List Output) (d now : Output) (one : length outputs ≡ 1) (slot : now.slot ≡ (get_or outputs 0 d).slot) (going : old.done ≡ false) where
+  module _ (old new : Telling T) (outputs : List Output) (d now : Output) (one : length outputs ≡ 1) (slot : now.slot ≡ (get_or outputs 0 d).slot) (going : old.done ≡ false) (fed : new.fed ≡ old.fed) where
     left_on : (begun : Telling T) (said text : List ℕ) → Leaves says left old.done old.source said text → Leaves says left false old.source said text
     left_on begun said text = subst (λ (b : Bool). Leaves says left b old.source said text) going
 
@@ -58,13 +56,12 @@ module _ {T : Type 0} (says : T → List ℕ → Type 0) (left : T → ℕ) wher
         → Takes (kind says left) old new outputs (set outputs 0 now)
     telling_takes tail.Rest is puts = record {
       held = omega (arith, puts.fewer, ap (λ (b : Bool). held_by says left b (left old.source)) going, ap (λ (b : Bool). held_by says left b (left new.source)) is);
-      room = refl;
+      room = ap (unfed says left) fed;
       added = puts.added ∷ [];
       adds = adds_one outputs d now puts.added one slot puts.is;
       stands = λ begun seen so_far s. record {
         said = s.said ++ puts.added;
         is = ap (λ (ts : List (List ℕ)). said_more ts (puts.added ∷ [])) s.is;
-        uncut = s.uncut;
         leaves = λ text t.
             let was = left_on begun s.said text (s.leaves text t) in
             let next = puts.rest was.0 was.1 in
@@ -74,19 +71,25 @@ module _ {T : Type 0} (says : T → List ℕ → Type 0) (left : T → ℕ) wher
     }
     telling_takes tail.End is puts = record {
       held = omega (arith, ap (λ (b : Bool). held_by says left b (left old.source)) going, ap (λ (b : Bool). held_by says left b (left new.source)) is);
-      room = refl;
+      room = ap (unfed says left) fed;
       added = puts.added ∷ [];
       adds = adds_one outputs d now puts.added one slot puts.is;
       stands = λ begun seen so_far s. record {
         said = s.said ++ puts.added;
         is = ap (λ (ts : List (List ℕ)). said_more ts (puts.added ∷ [])) s.is;
-        uncut = s.uncut;
         leaves = λ text t.
             let was = left_on begun s.said text (s.leaves text t) in
             subst (λ (b : Bool). Leaves says left b new.source (s.said ++ puts.added) text) (sym is)
             (was.2 ∙ ap (λ (o : List ℕ). s.said ++ o) (puts.all was.0 was.1));
       };
     }
+
+  all_told : (begun stage : Telling T) (seen : Seen) (so_far : List (List ℕ)) → stage.done ≡ true → IsTelling says left begun seen so_far stage → Tells says left begun so_far
+  all_told begun stage seen so_far is s = record {
+    said = s.said;
+    is = s.is;
+    all = λ text t. subst (λ (b : Bool). Leaves says left b stage.source s.said text) is (s.leaves text t);
+  }
 
   -- all is said
   pub telling_ends : (stage : Telling T) (outputs : List Output) → stage.done ≡ true → Ends (kind says left) stage stage outputs outputs
@@ -95,12 +98,16 @@ module _ {T : Type 0} (says : T → List ℕ → Type 0) (left : T → ℕ) wher
     room = refl;
     stands = λ begun seen so_far s. s;
     drained = λ begun seen so_far s uncut drains i inside. absurd (omega (arith, inside));
-    whole = λ begun seen so_far contents s uncut covers. record {
-      said = s.said;
-      is = s.is;
-      all = λ text t. subst (λ (b : Bool). Leaves says left b stage.source s.said text) is (s.leaves text t);
-    };
-    cut = λ begun seen so_far s cut. absurd (true≢false (sym cut ∙ s.uncut));
+    whole = λ begun seen so_far contents s uncut covers. all_told begun stage seen so_far is s;
+    cut = λ begun seen so_far s cut. (all_told begun stage seen so_far is s, tt);
+  }
+
+  -- what it was handed makes no difference
+  pub telling_feeds : (More : Seen → Seen → Type 0) (old new : Telling T) → old.fed ≡ false → new.fed ≡ true
+      → ((said text : List ℕ) → Leaves says left old.done old.source said text → Leaves says left new.done new.source said text) → Feeds (kind says left) More old new
+  telling_feeds More old new unfed_yet fed leaves = record {
+    stands = λ begun seen after so_far more s. record { said = s.said; is = s.is; leaves = λ text t. leaves s.said text (s.leaves text t) };
+    room = omega (arith, ap (unfed says left) unfed_yet, ap (unfed says left) fed);
   }
 
 -- ---- what a run leaves
@@ -124,16 +131,23 @@ module _ (tells : Bool) (name : List ℕ) (old new : State) (drains : Type 0) wh
 
   module _ {T : Type 0} (says : T → List ℕ → Type 0) (left : T → ℕ) (begun : Telling T) where
     abbrev pub Left : Stop → Type 0
-    Left answer = frame_of.Leaves tells [] (name ∷ []) old new (λ how contents so. TellsBy says left how begun so) (λ contents so. TellsFront says left begun so) answer
+    Left answer = frame_of.Leaves tells [] (name ∷ []) old new (λ how contents so. Tells says left begun so) (λ contents so. TellsFront says left begun so) answer
 
     -- it wasn't opened
     unopened : {A : Type 0} → new.outputs ≡ old.outputs → old.outputs.side.slots < new.outputs.side.slots → A
     unopened same more = absurd (let slots = ap (λ (w : Writing). w.side.slots) same in omega (arith, slots, more))
 
-    some_said : (text : List ℕ) → says begun.source text → HoldSome tells [] (name ∷ []) old new (λ how contents so. TellsBy says left how begun so) (λ contents so. TellsFront says left begun so)
+    some_said : (text : List ℕ) → says begun.source text → HoldSome tells [] (name ∷ []) old new (λ how contents so. Tells says left begun so) (λ contents so. TellsFront says left begun so)
         → old.outputs.side.slots < new.outputs.side.slots → HoldsFrontOf new.outputs name text
     some_said text t some more = front_on (holds new.outputs name) some.texts.said text (some.texts.front text t)
         ((subst (λ (ts : List (List ℕ)). HoldFronts old.outputs new.outputs 0 (name ∷ []) ts) some.texts.is some.held).0 (omega (arith, more)))
+
+    -- the file holds all of it
+    some_told : {how : How} {octets : ℕ → List ℕ} (text : List ℕ) → says begun.source text
+        → HoldAll tells [] (name ∷ []) old new (λ how contents so. Tells says left begun so) (λ contents so. TellsFront says left begun so) how octets → HoldsFrontOf new.outputs name text
+    some_told text t all = subst (λ (o : Option (List ℕ)). IsSomeAnd o (λ part. IsFront part text))
+        (sym ((subst (λ (ts : List (List ℕ)). HoldTexts new.outputs (name ∷ []) ts) all.texts.is all.held).0))
+        (record { rest = []; is = all.texts.all text t ∙ sym (append-nil all.texts.said) })
 
     -- the file holds the text, or a prefix of it
     pub told_stored : (answer : Stop) → Framed answer → (IsTrue tells → Left answer) → (text : List ℕ) → says begun.source text
@@ -146,7 +160,7 @@ module _ (tells : Bool) (name : List ℕ) (old new : State) (drains : Type 0) wh
     )
     told_stored stop.ReadFault frame leaves text t = λ told more. elim (leaves told) [
       | inl none ↦ unopened none.1 more
-      | inr handed ↦ absurd handed.1.hold.texts
+      | inr handed ↦ some_told text t handed.1.hold
     ]
     told_stored stop.WriteFault frame leaves text t = (frame.touches.outputs.how.rose, λ told more. some_said text t (leaves told).1 more)
     told_stored stop.NoMemory frame leaves text t = λ told more. elim (leaves told) [

@@ -6,7 +6,7 @@ use Rattle.ioam_desk.specs.declared.fault.DeskFault.{DeskFault}
 use Rattle.ioam_desk.specs.declared.fault.DeskFault.TheVariants.{Failed, NoMemory}
 use Rattle.ioam_desk_outputs.specs.Told.{said_more}
 use Rattle.ioam_run_part.specs.declared.telling.Telling.{Telling}
-use Rattle.ioam_stream.specs.Stage.{Kind, Lawful, Leading, Seen, How, Ended, Handed}
+use Rattle.ioam_stream.specs.Stage.{Kind, Lawful, Leading, Seen}
 use Rattle.ioam_stream.specs.declared.conversion.Tail.{Tail}
 use Rattle.ioam_stream.specs.declared.conversion.Tail.TheVariants as tail
 use Rattle.ioam_stream.specs.declared.reading.Stop.{Stop}
@@ -49,7 +49,6 @@ module _ {T : Type 0} (says : T → List ℕ → Type 0) (left : T → ℕ) wher
   pub record IsTelling (begun : Telling T) (seen : Seen) (so_far : List (List ℕ)) (now : Telling T) : Type 0 where
     pub said : List ℕ
     pub is : so_far ≡ said ∷ []
-    pub uncut : seen.cut ≡ false
     pub leaves : (text : List ℕ) → says begun.source text → Leaves now.done now.source said text
 
   module _ (begun : Telling T) (so : List (List ℕ)) where
@@ -65,10 +64,10 @@ module _ {T : Type 0} (says : T → List ℕ → Type 0) (left : T → ℕ) wher
       pub is : so ≡ said ∷ []
       pub front : (text : List ℕ) → says begun.source text → IsFront said text
 
-  -- no read fails
-  abbrev pub TellsBy : How → Telling T → List (List ℕ) → Type 0
-  TellsBy Ended begun so = Tells begun so
-  TellsBy Handed begun so = ⊥
+  -- what may still be handed to a stage that never asks for it, and doesn't look at it: once something
+  abbrev pub unfed : Bool → ℕ
+  unfed false = 1
+  unfed true = 0
 
   abbrev pub held_by : Bool → ℕ → ℕ
   held_by true n = 0
@@ -80,15 +79,15 @@ module _ {T : Type 0} (says : T → List ℕ → Type 0) (left : T → ℕ) wher
     width = λ now. 1;
     fresh = λ now. now.done ≡ false;
     stands = IsTelling;
-    texts = λ begun now how contents so. TellsBy how begun so;
+    texts = λ begun now how contents so. Tells begun so;
     firsts = λ begun contents so. TellsFront begun so;
     sealed = λ begun contents so. ⊥;
     parts = λ begun contents so. TellsFront begun so;
     drains = λ now. ⊤;
     marks = λ now ended. ⊤;
-    waits = λ now input. ⊥;
+    waits = λ now input. now.fed ≡ false;
     held = λ now. held_by now.done (left now.source);
-    room = λ now. 0;
+    room = λ now. unfed now.fed;
   }
 
   -- ---- The law of the stage. It stands here, since a ghost member of an `impl` cites specs/ alone.
@@ -111,7 +110,7 @@ module _ {T : Type 0} (says : T → List ℕ → Type 0) (left : T → ℕ) wher
   abbrev pub lawful : Lawful kind
   lawful = record {
     begins = λ begun seen so_far now contents covers s. inl (leading now begun seen so_far contents covers s);
-    waits = λ now input never. absurd never;
+    waits = λ now input waits. leading now;
     none = λ begun contents fresh. ([] ∷ [], refl, record { said = []; is = refl; front = λ text t. record { rest = text; is = refl } });
     parts = λ begun contents so firsts. firsts;
     sealed = λ begun contents so never. absurd never;

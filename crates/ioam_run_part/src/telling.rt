@@ -31,6 +31,8 @@ pub(crate) trait Source: Drop {
 struct Telling<T> {
     source: T,
     done: bool,
+    // whether something was handed to it, which it never asks for and doesn't look at
+    fed: bool,
 }
 
 impl<T: Source> Stage for Telling<T> {
@@ -56,10 +58,13 @@ impl<T: Source> Stage for Telling<T> {
     }
 
     fn feed(&mut self, _input: usize, _octets: &[u8]) -> Result<(), NoMemory> {
+        self.fed = true;
         Ok(())
     }
 
-    fn end(&mut self, _input: usize) {}
+    fn end(&mut self, _input: usize) {
+        self.fed = true;
+    }
 
     fn cut(&mut self, _input: usize) {}
 
@@ -94,6 +99,7 @@ pub(crate) fn tell<T: Source, D: Desk>(
     let mut stage = Telling {
         source,
         done: false,
+        fed: false,
     };
     let stop = run(alloc, desk, &[], slice::from_ref(name), &mut stage);
     stored(stop)

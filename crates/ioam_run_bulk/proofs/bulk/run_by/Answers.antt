@@ -24,10 +24,10 @@ returns g c =
     let new : State = state (g.D.Desk.reading c.run-stop.new.desk) (g.D.Desk.writing c.run-stop.new.desk) in
     let desks = around tells old.inputs new.inputs old.outputs new.outputs in
     let Framed : List (List ℕ) → Type 0 = λ outs. Frame tells [] outs old new ⊤ c.run-stop.result in
-    let Left : List (List ℕ) → Type 0 = λ outs. Leaves tells [] outs old new (λ how contents. Says begun how) (λ contents. SaysOne (MayReport seed count)) c.run-stop.result in
+    let Left : List (List ℕ) → Type 0 = λ outs. Leaves tells [] outs old new (λ how contents. Says begun) (λ contents. SaysOne (MayReport seed count)) c.run-stop.result in
     let frame = subst Framed c.from_ref.ensures.value c.run-stop.ensures.frame in
     let leaves : IsTrue tells → Left (c.args.report.now ∷ []) = λ told. subst Left c.from_ref.ensures.value (c.run-stop.ensures.leaves told) in
-    let ran = keeps_ran tells seed count c.args.report.now old new (λ how. Says begun how) (λ so says. says) ⊤ c.run-stop.result frame leaves (c.run-stop.ensures.alone refl) in
+    let ran = keeps_ran tells seed count c.args.report.now old new (λ how. Says begun) (λ so says. says) ⊤ c.run-stop.result frame leaves (c.run-stop.ensures.alone refl) in
     let Answered : ℕ → ℕ → Outcome → Type 0 = λ s n answer. Keeps desks s n c.args.report.now answer in
     record {
       keeps = subst (λ (s : ℕ). Answered s c.args.count c.answered.result) c.in-Ok.ensures.seed.0

@@ -9,7 +9,7 @@ pub returns-then-self-clause-steps : goal.returns-then-self-clause-steps
 returns-then-self-clause-steps g c = ends_said _ _ c.args.self.now c.args.outputs.now c.if-self.true
 
 pub returns-then-left-gt0-clause-steps : goal.returns-then-left-gt0-clause-steps
-returns-then-left-gt0-clause-steps g c = takes_some _ _ c.args.self.now _ c.args.outputs.now c.args.outputs.now c.requires.width refl refl c.if-self.false c.if-self.false
+returns-then-left-gt0-clause-steps g c = takes_some _ _ c.args.self.now _ c.args.outputs.now c.args.outputs.now c.requires.width refl refl refl c.if-self.false c.if-self.false
     (omega (arith, c.min.ensures, c.if-left-gt0.true)) (omega (arith, c.min.ensures, c.if-left-gt0.true)) c.in_ok-take_some.ensures.loads
 
 pub returns-clause-steps : goal.returns-clause-steps
@@ -18,7 +18,7 @@ returns-clause-steps g c =
     let sums = c.run_rest.new.load.gathered.sums in
     takes_sums _ _ c.args.self.now _ c.args.outputs.now _ (sums_text terms.domain.now sums)
     (Adds-one c.args.outputs.now c.index-outputs-0.result _ (sums_text terms.domain.now sums) c.requires.width refl c.in_ok-put_sums.ensures.text)
-    refl c.if-self.false refl
+    refl refl c.if-self.false refl
     (λ set. IsReport-of terms.seed terms.count terms.domain.now terms.readings.now sums set.domain set.readings c.run_rest.ensures.sums c.in_ok-put_sums.ensures.arrivals)
 
 pub returns-in_err-take_some-clause-leads : goal.returns-in_err-take_some-clause-leads
