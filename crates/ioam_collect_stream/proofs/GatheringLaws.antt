@@ -1,5 +1,5 @@
 -- Laws of export records that are read in pieces and regrouped.
-use Rattle.std.proofs.Common.{◌≡◌, ℕ, ◌+◌, ◌*◌, ◌<◌, ◌≤◌, true, false, List, [], ◌∷◌, ◌++◌, length, length-append, refl, ap, ◌∙◌, arith, inl, inr}
+use Rattle.std.proofs.Common.{◌≡◌, ℕ, ◌+◌, ◌*◌, ◌<◌, ◌≤◌, true, false, List, [], ◌∷◌, ◌++◌, length, length-append, refl, sym, subst, Some, ap, ◌∙◌, arith, inl, inr}
 use Rattle.std.proofs.lemmas.Bool.Decides.{nat_tests}
 use Rattle.std.proofs.lemmas.List.Elements.{recursion_from_All}
 use Rattle.ioam_dex.specs.Record.{Record, IsRecord, record_octets}
@@ -13,7 +13,9 @@ use Rattle.ioam_collect.specs.Joining.{is_full}
 use Rattle.ioam_collect.proofs.CountLaws.{full_count, fits_count, held_within}
 use Rattle.ioam_collect.specs.declared.growing.Added.{Added}
 use Rattle.ioam_collect.specs.declared.growing.Added.TheVariants.{Kept, Replaced, Repeat, Unkeyed, Full}
-use Rattle.ioam_collect_stream.specs.Gathering.{Gathers, IsPast, SaysLimit}
+use Rattle.ioam_collect_stream.specs.Gathering.{Gathers, IsPast, SaysLimit, Shows, Steps}
+use Rattle.ioam_collect_stream.specs.declared.step.Pause.{Pause}
+use Rattle.ioam_collect_stream.specs.declared.step.Pause.TheVariants as pause
 
 -- a reader that waits holds back less than a record
 pub Waits-few : (reader : Reading) → Waits reader → length reader.pending < 274
@@ -106,3 +108,33 @@ full_is Unkeyed is = absurd (cc is)
 
 pub full_not : (added : Added) → is_full added ≡ false → added ≡ Full → ⊥
 full_not added isnt same = let is : is_full added ≡ true = ap is_full same in absurd (cc (isnt, is))
+
+-- a step that took nothing
+gathers_still : (octets : List ℕ) (all : List Record) (old new : Reading) (before after : Collected) → new ≡ old → after ≡ before → Gathers octets all old before → Gathers octets all new after
+gathers_still octets all old new before after reader collector g =
+    subst (λ (c : Collected). Gathers octets all new c) (sym collector) (subst (λ (r : Reading). Gathers octets all r before) (sym reader) g)
+
+-- what stopped the taking of records, by what the last step says after the ones before it
+pub shows_step : (old mid new : Reading) (before between after : Collected) (what : Pause)
+    → ((octets : List ℕ) (records : List Record) → Gathers octets records old before → (all : List Record) × Gathers octets all mid between)
+    → Steps mid new between after (Some what) → Shows old new before after what
+shows_step old mid new before between after pause.More gathers steps = (
+  subst (λ (r : Reading). Waits r) (sym steps.0) steps.2,
+  λ octets records g. let now = gathers octets records g in (now.0, gathers_still octets now.0 mid new between after steps.0 steps.1 now.1),
+)
+shows_step old mid new before between after (pause.Bad at fault) gathers steps = λ octets records g.
+    let now = gathers octets records g in (
+      now.0,
+      gathers_still octets now.0 mid new between after steps.0 steps.1 now.1,
+      steps.2 octets now.0 now.1.stands,
+    )
+shows_step old mid new before between after (pause.Limit limit) gathers steps = λ octets records g.
+    let now = gathers octets records g in
+    let past = steps.2 octets now.0 now.1 in
+    (now.0, mid, subst (λ (c : Collected). Gathers octets now.0 mid c) (sym steps.1) now.1, past.0, past.1, past.2)
+
+-- the last step takes no octets back
+pub step_fewer : (old new : Reading) (before after : Collected) (what : Pause) → Steps old new before after (Some what) → length new.pending ≤ length old.pending
+step_fewer old new before after pause.More steps = omega (arith, ap (λ (r : Reading). length r.pending) steps.0)
+step_fewer old new before after (pause.Bad at fault) steps = omega (arith, ap (λ (r : Reading). length r.pending) steps.0)
+step_fewer old new before after (pause.Limit limit) steps = omega (arith, steps.0)

@@ -1,10 +1,10 @@
 -- How records are read and regrouped, and what is said of them.
-use Rattle.std.proofs.Common.{◌≡◌, ℕ, ◌+◌, ◌-◌, ◌^◌, ◌<◌, suc, List, [], ◌∷◌, ◌++◌, length, get_or, set, refl, sym, ap, ◌∙◌, subst, length-append, append-nil, append_assoc, arith, Option, Some, None, MatchOption}
+use Rattle.std.proofs.Common.{◌≡◌, ℕ, ◌+◌, ◌-◌, ◌^◌, ◌<◌, ◌≤◌, suc, List, [], ◌∷◌, ◌++◌, length, get_or, set, refl, sym, ap, ◌∙◌, subst, length-append, append-nil, append_assoc, arith, Option, Some, None, MatchOption}
 use Rattle.std.specs.Borrow.{MutBor}
 use Rattle.std.proofs.lemmas.List.Elements.{All-nil, All-cons}
 use Rattle.ioam_collect.specs.Collected as collected
 use Rattle.ioam_collect.specs.Collected.{Collected}
-use Rattle.ioam_collect_stream.specs.Gathering.{Gathers, Steps}
+use Rattle.ioam_collect_stream.specs.Gathering.{AreFew, Gathers, Shows}
 use Rattle.ioam_collect_stream.specs.Regrouping.{AreFirst, AreOf, HasStopped, IsEnd, IsRegrouping, IsSaying, IsUnsaid, by_option, does}
 use Rattle.ioam_collect_stream.specs.Report.{Begins, Puts, PutsPart}
 use Rattle.ioam_collect_stream.specs.declared.regrouping.Regrouping.{Regrouping}
@@ -52,7 +52,7 @@ module _ {T : Type 0} (tells : List Record → List ℕ → Type 0) (rest : T �
     λ fresh. record { records = []; gathers = fresh.gathers; cause = fresh.cause; unsaid = refl },
   )
 
-  -- ---- one record
+  -- ---- the records that are shown
 
   module _ (old : Regrouping T) (reader : Reading) (lent now : MutBor Collected) (here : old.collector ≡ Some lent) where
     -- what is gathered, where the collector is lent
@@ -72,78 +72,57 @@ module _ {T : Type 0} (tells : List Record → List ℕ → Type 0) (rest : T �
       gathers_now octets records g = subst (λ (o : Option (MutBor Collected)). MatchOption o ⊥ (λ (c : MutBor Collected). Gathers octets records new.reader c.now)) (sym now_is)
           (subst (λ (r : Reading). Gathers octets records r now.now) (sym reader_is) g)
 
-      pub takes_one : length outputs ≡ 1 → new.cause ≡ old.cause → Steps old.reader reader lent.now now.now None → TakesOne D old new outputs outputs
-      takes_one one why steps = record {
-        held = omega (arith, held_is old.report, held_now new.report, ap (λ (r : Reading). length r.pending) reader_is, steps.0);
-        added = [] ∷ [];
-        adds = adds_none outputs one;
-        stands = λ begun octets so_far s.
-            let more = steps.1 octets s.records (gathered octets s.records s.gathers) in
-            record {
-              records = s.records ++ more.0 ∷ [];
-              gathers = gathers_now octets (s.records ++ more.0 ∷ []) more.1;
-              cause = why ∙ s.cause;
-              unsaid = ap (λ (texts : List (List ℕ)). said_more texts ([] ∷ [])) s.unsaid;
-            };
-      }
-
-      pub needs_more : new.cause ≡ old.cause → Steps old.reader reader lent.now now.now (Some pause.More) → NeedsMore D old new outputs outputs
-      needs_more why steps = record {
+      pub needs_more : new.cause ≡ old.cause → Shows old.reader reader lent.now now.now pause.More → NeedsMore D old new outputs outputs
+      needs_more why shown = record {
         same = refl;
-        waits = subst (λ (r : Reading). Waits r) (sym (reader_is ∙ steps.0)) steps.2;
-        stands = λ begun octets so_far s. record {
-          records = s.records;
-          gathers = gathers_now octets s.records (subst (λ (c : Collected). Gathers octets s.records reader c) (sym steps.1)
-              (subst (λ (r : Reading). Gathers octets s.records r lent.now) (sym steps.0) (gathered octets s.records s.gathers)));
-          cause = why ∙ s.cause;
-          unsaid = s.unsaid;
-        };
+        waits = subst (λ (r : Reading). Waits r) (sym reader_is) shown.0;
+        stands = λ begun octets so_far s.
+            let g = shown.1 octets s.records (gathered octets s.records s.gathers) in
+            record { records = g.0; gathers = gathers_now octets g.0 g.1; cause = why ∙ s.cause; unsaid = s.unsaid };
       }
 
-      -- no more records
-      stopped_by : (how : How) (octets whole : List ℕ) (so_far : List (List ℕ)) (s : IsRegrouping octets so_far old) → now.now ≡ lent.now
-          → AreOf how new.cause s.records whole → AreFirst s.records whole → HasStopped tells rest left most how whole so_far new
-      stopped_by how octets whole so_far s same are first =
-          let g = gathered octets s.records s.gathers in
-          record {
-            records = s.records;
-            are = are;
-            first = first;
-            few = g.few;
-            says = subst (λ (o : Option (MutBor Collected)). MatchOption o (IsSaying tells rest left most s.records so_far new.report)
-                (λ (c : MutBor Collected). collected.Stands c.now s.records × IsUnsaid so_far)) (sym now_is)
-                (subst (λ (c : Collected). collected.Stands c s.records) (sym same) g.stands_for, s.unsaid);
-          }
-
-      begins_on : (octets more : List ℕ) (so_far : List (List ℕ)) (s : IsRegrouping octets so_far old) → AreFirst s.records (octets ++ more)
-      begins_on octets more so_far s =
-          (old.reader.pending ++ more, Splits-feed octets more s.records old.reader.pending (gathered octets s.records s.gathers).stands.splits)
+      -- no more records than these
+      stopped_by : (how : How) (whole : List ℕ) (so_far : List (List ℕ)) (records : List Record) → IsUnsaid so_far → collected.Stands now.now records → AreFew records
+          → AreOf how new.cause records whole → AreFirst records whole → HasStopped tells rest left most how whole so_far new
+      stopped_by how whole so_far records unsaid stands few are first = record {
+        records = records;
+        are = are;
+        first = first;
+        few = few;
+        says = subst (λ (o : Option (MutBor Collected)). MatchOption o (IsSaying tells rest left most records so_far new.report)
+            (λ (c : MutBor Collected). collected.Stands c.now records × IsUnsaid so_far)) (sym now_is) (stands, unsaid);
+      }
 
       -- a record past a limit
-      pub takes_past : (limit : Limit) → new.cause ≡ cause.Limit limit → Steps old.reader reader lent.now now.now (Some (pause.Limit limit)) → TakesNone D old new outputs outputs
-      takes_past limit why steps = record {
+      pub takes_past : (limit : Limit) → new.cause ≡ cause.Limit limit → length reader.pending ≤ length old.reader.pending
+          → Shows old.reader reader lent.now now.now (pause.Limit limit) → TakesNone D old new outputs outputs
+      takes_past limit why fewer shown = record {
         same = refl;
-        held = omega (arith, held_is old.report, held_now new.report, ap (λ (r : Reading). length r.pending) reader_is, steps.0);
+        held = omega (arith, held_is old.report, held_now new.report, ap (λ (r : Reading). length r.pending) reader_is, fewer);
         stops = λ begun octets more so_far s.
-            let past = steps.2 octets s.records (gathered octets s.records s.gathers) in
-            stopped_by Ended octets (octets ++ more) so_far s steps.1 (subst (λ (k : Cause). AreOf Ended k s.records (octets ++ more)) (sym why) (record {
-              next = past.0;
+            let past = shown octets s.records (gathered octets s.records s.gathers) in
+            let g = past.2 in
+            stopped_by Ended (octets ++ more) so_far past.0 s.unsaid g.stands_for g.few (subst (λ (k : Cause). AreOf Ended k past.0 (octets ++ more)) (sym why) (record {
+              next = past.3;
               rest = reader.pending ++ more;
-              splits = Splits-feed octets more (s.records ++ past.0 ∷ []) reader.pending past.1.splits;
-              past = past.2;
-            })) (begins_on octets more so_far s);
+              splits = Splits-feed octets more (past.0 ++ past.3 ∷ []) reader.pending past.4.splits;
+              past = past.5;
+            })) (past.1.pending ++ more, Splits-feed octets more past.0 past.1.pending g.stands.splits);
         undrained = λ drains. subst (λ (k : Cause). IsEnd k) why drains;
       }
 
       -- a faulty record
-      pub takes_bad : (at : ℕ) (fault : ExportFault) → new.cause ≡ cause.Bad at fault → Steps old.reader reader lent.now now.now (Some (pause.Bad at fault))
-          → TakesNone D old new outputs outputs
-      takes_bad at fault why steps = record {
+      pub takes_bad : (at : ℕ) (fault : ExportFault) → new.cause ≡ cause.Bad at fault → length reader.pending ≤ length old.reader.pending
+          → Shows old.reader reader lent.now now.now (pause.Bad at fault) → TakesNone D old new outputs outputs
+      takes_bad at fault why fewer shown = record {
         same = refl;
-        held = omega (arith, held_is old.report, held_now new.report, ap (λ (r : Reading). length r.pending) (reader_is ∙ steps.0));
-        stops = λ begun octets more so_far s. stopped_by Ended octets (octets ++ more) so_far s steps.1
-            (subst (λ (k : Cause). AreOf Ended k s.records (octets ++ more)) (sym why) (steps.2 octets s.records (gathered octets s.records s.gathers).stands more))
-            (begins_on octets more so_far s);
+        held = omega (arith, held_is old.report, held_now new.report, ap (λ (r : Reading). length r.pending) reader_is, fewer);
+        stops = λ begun octets more so_far s.
+            let bad = shown octets s.records (gathered octets s.records s.gathers) in
+            let g = bad.1 in
+            stopped_by Ended (octets ++ more) so_far bad.0 s.unsaid g.stands_for g.few
+            (subst (λ (k : Cause). AreOf Ended k bad.0 (octets ++ more)) (sym why) (bad.2 more))
+            (reader.pending ++ more, Splits-feed octets more bad.0 reader.pending g.stands.splits);
         undrained = λ drains. subst (λ (k : Cause). IsEnd k) why drains;
       }
 
@@ -154,7 +133,7 @@ module _ {T : Type 0} (tells : List Record → List ℕ → Type 0) (rest : T �
         room = ap (λ (r : Reading). 2 ^ 63 - fed r) (reader_is ∙ still);
         stops = λ begun octets so_far s.
             let g = gathered octets s.records s.gathers in
-            stopped_by how octets octets so_far s same (are octets s.records g.stands) (old.reader.pending, g.stands.splits);
+            stopped_by how octets so_far s.records s.unsaid (subst (λ (c : Collected). collected.Stands c s.records) (sym same) g.stands_for) g.few (are octets s.records g.stands) (old.reader.pending, g.stands.splits);
       }
 
       -- a piece more was fed

@@ -65,6 +65,16 @@ module _ (old new : Reading) (before after : Collected) where
       × ((octets : List ℕ) (records : List Record) → Gathers octets records old before
       → (x : Record) × Stands new octets (records ++ x ∷ []) × IsPast (most_of limit) records x)
 
+-- what the taking of all records did that the octets show whole: they were gathered, and then more octets are needed, or the next
+-- record has this fault, or it is one past this limit
+module _ (old new : Reading) (before after : Collected) where
+  abbrev pub Shows : Pause → Type 0
+  Shows pause.More = Waits new × ((octets : List ℕ) (records : List Record) → Gathers octets records old before → (all : List Record) × Gathers octets all new after)
+  Shows (pause.Bad at fault) = (octets : List ℕ) (records : List Record) → Gathers octets records old before
+      → (all : List Record) × Gathers octets all new after × ((more : List ℕ) → Reads (octets ++ more) all (Faulty at fault))
+  Shows (pause.Limit limit) = (octets : List ℕ) (records : List Record) → Gathers octets records old before
+      → (all : List Record) × (mid : Reading) × Gathers octets all mid after × (x : Record) × Stands new octets (all ++ x ∷ []) × IsPast (most_of limit) all x
+
 -- the octets are these records, behind which one is too many
 pub record Passes (limit : ℕ) (records : List Record) (octets : List ℕ) : Type 0 where
   pub next : Record

@@ -7,7 +7,7 @@ ghost use Rattle.ioam_collect_stream.specs.Regrouping.{IsFresh, answer_of, cause
 
 use crate::ahead::Ahead;
 use crate::report::Report;
-use crate::step::{Limit, Pause, step};
+use crate::step::{Limit, Pause, take_shown};
 use ioam_base::memory::NoMemory;
 use ioam_collect::Collector;
 use ioam_desk_outputs::Output;
@@ -93,15 +93,13 @@ impl<'a, T: Report<'a>> Converter for Regrouping<'a, T> {
         let Some(collector) = &mut self.collector else {
             unreachable!()
         };
-        self.ahead.go_on(collector);
-        match step(&mut self.reader, collector)? {
-            None => Ok(Took::Item),
-            Some(Pause::More) => Ok(Took::More),
-            Some(Pause::Bad { at, fault }) => {
+        match take_shown(&mut self.reader, &mut self.ahead, collector)? {
+            Pause::More => Ok(Took::More),
+            Pause::Bad { at, fault } => {
                 self.cause = Cause::Bad { at, fault };
                 Ok(Took::Stop)
             }
-            Some(Pause::Limit { limit }) => {
+            Pause::Limit { limit } => {
                 self.cause = Cause::Limit { limit };
                 Ok(Took::Stop)
             }

@@ -1,9 +1,10 @@
-//! One step of a reader whose records are regrouped.
-ghost use Rattle.std.specs.Prelude.{◌≡◌, IfOk};
+//! The records that a reader shows, which are regrouped.
+ghost use Rattle.std.specs.Prelude.{◌≡◌, ◌≤◌, IfOk, OnOk, length};
 ghost use Rattle.ioam_dex.specs.Reader.{fed};
 ghost use Rattle.ioam_dex.specs.Record.{HasItsParts, record_of};
-ghost use Rattle.ioam_collect_stream.specs.Gathering.{SaysLimit, Steps, most_held, most_of};
+ghost use Rattle.ioam_collect_stream.specs.Gathering.{SaysLimit, Shows, Steps, most_held, most_of};
 
+use crate::ahead::Ahead;
 use ioam_base::memory::NoMemory;
 use ioam_collect::{Collector, MOST_HELD};
 use ioam_dex::{Export, ExportFault, ExportReader, MOST_RECORDS, Step};
@@ -54,11 +55,8 @@ fn passed_limit(collector: &mut Collector, export: &Export<'_>) -> Limit
     }
 }
 
-/// Takes the next record that the octets fed so far show. The answer is None where one was taken.
-pub(crate) fn step(
-    reader: &mut ExportReader,
-    collector: &mut Collector,
-) -> Result<Option<Pause>, NoMemory>
+// Takes the next record that the octets fed so far show. The answer is None where one was taken.
+fn step(reader: &mut ExportReader, collector: &mut Collector) -> Result<Option<Pause>, NoMemory>
     requires { collector.old.limit ≡ most_held }
     ensures stepped { IfOk result (Steps reader.old reader.new collector.old collector.new) }
     ensures fed { fed reader.new ≡ fed reader.old }
@@ -78,5 +76,26 @@ pub(crate) fn step(
         }
         Step::More => Ok(Some(Pause::More)),
         Step::Bad { at, fault } => Ok(Some(Pause::Bad { at, fault })),
+    }
+}
+
+/// Takes all records that the octets fed so far show whole, and says why no other.
+pub(crate) fn take_shown(
+    reader: &mut ExportReader,
+    ahead: &mut Ahead,
+    collector: &mut Collector,
+) -> Result<Pause, NoMemory>
+    requires { collector.old.limit ≡ most_held }
+    ensures shown { IfOk result (Shows reader.old reader.new collector.old collector.new) }
+    ensures fewer { OnOk result (length reader.new.pending ≤ length reader.old.pending) }
+    ensures fed { fed reader.new ≡ fed reader.old }
+    ensures limit { collector.new.limit ≡ collector.old.limit }
+{
+    'records: loop {
+        ahead.go_on(collector);
+        match step(reader, collector)? {
+            None => {}
+            Some(pause) => return Ok(pause),
+        }
     }
 }
