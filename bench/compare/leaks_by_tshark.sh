@@ -21,7 +21,8 @@ why() {
 }
 
 status=0
-if [ $# = 0 ]; then set -- "$top"/examples/*.pcap* "$top"/examples/*/*.pcap; fi
+# (Those of examples/recipes have a cooked header and VLAN tags, which no command reads.)
+if [ $# = 0 ]; then mapfile -t captures < <(find "$top/examples" -name "*.pcap*" ! -path "*/recipes/*" | sort) && set -- "${captures[@]}"; fi
 for capture in "$@"; do
     name=$(basename "$capture")
     "$ioam" leaks "$capture" "$work/out" "$work/report" >"$work/said" 2>/dev/null || { echo "$name: $(cat "$work/said")"; status=1; continue; }
