@@ -1,3 +1,5 @@
 pub mod Words
 pub mod Shares
 pub mod Rows
+pub mod Units
+pub mod Picture

@@ -48,8 +48,6 @@ pub fn put_way_row(
     passed: &Passed,
     out: &mut Vec<u8>,
 ) -> Result<(), NoMemory>
-    requires some { 0 < traces }
-    requires within { passed.now.count ≤ traces }
     ensures { OnOk result (out.new.items ≡ out.old.items ++ way_row traces key.now passed.now) }
 {
     append(out, b"  way")?;
@@ -57,6 +55,6 @@ pub fn put_way_row(
     append(out, b" count ")?;
     append_decimal(out, passed.count)?;
     append(out, b" share ")?;
-    put_share(passed.count, traces, out)?;
+    put_share(u128::from(passed.count), u128::from(traces), out)?;
     put_ends(&passed.delays, out)
 }

@@ -1,6 +1,7 @@
 //! Delays that are counted.
-ghost use Rattle.std.specs.Prelude.{◌≡◌, ◌<◌, ◌≤◌, ◌^◌, ◌++◌, ◌∷◌, [], List, ℤ, pos, length, IfOk};
+ghost use Rattle.std.specs.Prelude.{◌≡◌, ◌<◌, ◌≤◌, ◌^◌, ◌++◌, ◌∷◌, [], List, ℤ, pos, length, slice_range, IfOk};
 ghost use Rattle.std.specs.Int.{int_div_euclid};
+ghost use Rattle.std.specs.List.{sum};
 
 use crate::buckets::{BUCKETS, bucket, greatest};
 use ioam_base::memory::NoMemory;
@@ -84,4 +85,27 @@ impl Counter {
         }
         i128::from(self.most)
     }
+
+    /// How many delays are in the buckets from one to before another.
+    pub fn between(&self, from: usize, to: usize) -> u128
+        requires order { from ≤ to }
+        requires exist { to ≤ 4096 }
+        ensures is { result ≡ sum (slice_range self.now.buckets.items from to) }
+        ensures below { result < 2 ^ 77 }
+    {
+        total(&self.buckets[from..to])
+    }
+}
+
+// The sum of numbers.
+fn total(numbers: &[u64]) -> u128
+    requires { length numbers.now ≤ 4096 }
+    ensures is { result ≡ sum numbers.now }
+    ensures below { result < 2 ^ 77 }
+{
+    let mut total: u128 = 0;
+    'numbers: for number in numbers.iter() {
+        total += u128::from(*number);
+    }
+    total
 }
