@@ -1,6 +1,3 @@
-pub mod CaptureLaws
+pub mod InputsLaws
 pub mod ListLaws
-pub mod MergingLaws
-pub mod ShowLaws
-pub mod TakeLaws
-pub mod OpenLaws
+pub mod MergeLaws

@@ -1,8 +1,9 @@
--- Lists of which one item is changed.
-use Rattle.std.proofs.Common.{◌≡◌, ℕ, zero, suc, ◌<◌, ◌⊎◌, List, [], ◌∷◌, length, Some, arith, refl, sym, ap, ◌∙◌, subst, inl, inr, set}
-use Rattle.std.specs.Prelude.{map, slice_get}
+-- Lists of which one item is changed, and lists of a function's values.
+use Rattle.std.proofs.Common.{◌≡◌, ℕ, zero, suc, ◌+◌, ◌<◌, ◌≤◌, ◌⊎◌, List, [], ◌∷◌, ◌++◌, length, Some, arith, refl, sym, ap, ◌∙◌, inl, inr, set}
+use Rattle.std.specs.Prelude.{slice_get}
 use Rattle.std.specs.List.{AllZip}
 use Rattle.std.proofs.lemmas.Option.{none-some, same_Some}
+use Rattle.ioam_capture_merge.specs.Merge.{each}
 
 module _ {A : Type 0} where
   -- an item that is inside
@@ -11,7 +12,12 @@ module _ {A : Type 0} where
   get-inside (x ∷ xs) zero inside = (x, refl)
   get-inside (x ∷ xs) (suc k) inside = get-inside xs k (omega (arith, inside))
 
-  -- an item behind the change is the new one, or it stood there before
+  pub within : (xs : List A) (k : ℕ) (x : A) → slice_get xs k ≡ Some x → k < length xs
+  within [] k x is = absurd (none-some x is)
+  within (y ∷ ys) zero x is = omega arith
+  within (y ∷ ys) (suc k) x is = omega (arith, within ys k x is)
+
+  -- an item after the change is the new one, or it stood there before
   pub get-set : (xs : List A) (place : ℕ) (y : A) (k : ℕ) (x : A) → slice_get (set xs place y) k ≡ Some x
       → ((k ≡ place) × (x ≡ y)) ⊎ ((k ≡ place → ⊥) × (slice_get xs k ≡ Some x))
   get-set [] place y k x is = absurd (none-some x is)
@@ -28,30 +34,36 @@ module _ {A : Type 0} where
   get-set_here (z ∷ zs) zero x y is = refl
   get-set_here (z ∷ zs) (suc place) x y is = get-set_here zs place x y is
 
-  pub get-map : {B : Type 0} (f : A → B) (xs : List A) (k : ℕ) (x : A) → slice_get xs k ≡ Some x → slice_get (map f xs) k ≡ Some (f x)
-  get-map f [] k x is = absurd (none-some x is)
-  get-map f (z ∷ zs) zero x is = ap (λ w. Some (f w)) (same_Some z x is)
-  get-map f (z ∷ zs) (suc k) x is = get-map f zs k x is
+  pub set-length : (xs : List A) (place : ℕ) (y : A) → length (set xs place y) ≡ length xs
+  set-length [] place y = refl
+  set-length (x ∷ xs) zero y = refl
+  set-length (x ∷ xs) (suc place) y = omega (arith, set-length xs place y)
 
-  pub map-set : {B : Type 0} (f : A → B) (xs : List A) (place : ℕ) (y : A) → map f (set xs place y) ≡ set (map f xs) place (f y)
-  map-set f [] place y = refl
-  map-set f (z ∷ zs) zero y = refl
-  map-set f (z ∷ zs) (suc place) y = ap (λ ws. f z ∷ ws) (map-set f zs place y)
+  -- an item of a list that got one more
+  pub get-push : (xs : List A) (y : A) (k : ℕ) (x : A) → slice_get (xs ++ y ∷ []) k ≡ Some x
+      → (slice_get xs k ≡ Some x) ⊎ ((k ≡ length xs) × (x ≡ y))
+  get-push [] y zero x is = inr (refl, sym (same_Some y x is))
+  get-push [] y (suc k) x is = absurd (none-some x is)
+  get-push (z ∷ zs) y zero x is = inl is
+  get-push (z ∷ zs) y (suc k) x is = elim (get-push zs y k x is) [
+    | inl before ↦ inl before
+    | inr last ↦ inr (ap suc last.0, last.1)
+  ]
 
-  -- a change that the function doesn't see
-  pub map-set_same : {B : Type 0} (f : A → B) (xs : List A) (place : ℕ) (x y : A) → slice_get xs place ≡ Some x → f y ≡ f x
-      → map f (set xs place y) ≡ map f xs
-  map-set_same f [] place x y is same = absurd (none-some x is)
-  map-set_same f (z ∷ zs) zero x y is same = ap (λ w. w ∷ map f zs) (same ∙ ap f (sym (same_Some z x is)))
-  map-set_same f (z ∷ zs) (suc place) x y is same = ap (λ ws. f z ∷ ws) (map-set_same f zs place x y is same)
+  -- a list of values
+  pub each-get : (n from : ℕ) (f : ℕ → A) (k : ℕ) → k < n → slice_get (each n from f) k ≡ Some (f (from + k))
+  each-get zero from f k inside = absurd (omega (arith, inside))
+  each-get (suc n) from f zero inside = let here : from ≡ from + 0 = omega arith in ap (λ (m : ℕ). Some (f m)) here
+  each-get (suc n) from f (suc k) inside =
+      let there : suc from + k ≡ from + suc k = omega arith in
+      each-get n (suc from) f k (omega (arith, inside)) ∙ ap (λ (m : ℕ). Some (f m)) there
 
-  -- each item is as the relation says beside what became of it
-  pub zip-refl : {B : Type 0} (f : A → B) (R : B → B → Type 0) → ((b : B) → R b b) → (xs : List A) → AllZip R (map f xs) (map f xs)
-  zip-refl f R same [] = tt
-  zip-refl f R same (x ∷ xs) = (same (f x), zip-refl f R same xs)
+  pub each-length : (n from : ℕ) (f : ℕ → A) → length (each n from f) ≡ n
+  each-length zero from f = refl
+  each-length (suc n) from f = omega (arith, each-length n (suc from) f)
 
-  pub zip-set : {B : Type 0} (f : A → B) (R : B → B → Type 0) → ((b : B) → R b b) → (xs : List A) (place : ℕ) (x y : A)
-      → slice_get xs place ≡ Some x → R (f x) (f y) → AllZip R (map f xs) (map f (set xs place y))
-  zip-set f R same [] place x y is on = absurd (none-some x is)
-  zip-set f R same (z ∷ zs) zero x y is on = (subst (λ w. R (f w) (f y)) (sym (same_Some z x is)) on, zip-refl f R same zs)
-  zip-set f R same (z ∷ zs) (suc place) x y is on = (same (f z), zip-set f R same zs place x y is on)
+  pub each-zip : {B : Type 0} (R : A → B → Type 0) (n from : ℕ) (f : ℕ → A) (g : ℕ → B) → ((k : ℕ) → from ≤ k → k < from + n → R (f k) (g k))
+      → AllZip R (each n from f) (each n from g)
+  each-zip R zero from f g all = tt
+  each-zip R (suc n) from f g all =
+      (all from (omega arith) (omega arith), each-zip R n (suc from) f g (λ k least below. all k (omega (arith, least)) (omega (arith, below))))

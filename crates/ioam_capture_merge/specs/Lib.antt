@@ -1,3 +1,4 @@
-pub mod Feed
 pub mod Capture
+pub mod Inputs
+pub mod Merge
 pub mod Merging

@@ -1,132 +1,110 @@
 //! Several captures that are merged by time.
-ghost use Rattle.std.specs.Prelude.{◌≡◌, ◌<◌, ◌+◌, ◌++◌, ◌∷◌, [], List, false, IfErr, IfOk, OnOk, length, vec_len};
-ghost use Rattle.ioam_desk.specs.Asked.{IsFaultOf};
+ghost use Rattle.std.specs.Prelude.{◌≡◌, ◌<◌, ◌≤◌, ◌+◌, ◌++◌, [], ℕ, Bool, List, false, IfOk, OnOk, length, vec_len};
 ghost use Rattle.ioam_capture.specs.Merge.{Arrival};
-ghost use Rattle.ioam_capture_merge.specs.Merging.{Start, Merging, IsMerging, AreKnown, Shows, Turns, EndsKept};
+ghost use Rattle.ioam_capture_merge.specs.Merge.{AreKnown, IsEnded, IsFed, IsMerging, IsShortOf, Merging, ShowsOne, Shows, Turns, room_of};
 
 use crate::capture::Capture;
-use crate::feed::Feed;
 use ioam_base::memory::NoMemory;
-use ioam_capture::{Due, Turn, next_turn};
-use ioam_desk::{Desk, DeskFault, PIECE, new_piece};
+use ioam_capture::{Due, Reader, Turn, next_turn};
 use std::alloc::Global;
 
-/// Several captures of a desk, merged by time.
+/// Several captures, merged by time.
 #[derive(Drop)]
 pub struct Merge {
     /// The captures, in the order of their names.
     pub captures: Vec<Capture>,
-    // what is due of each, as far as it is known: `More` where the capture has to be asked
-    dues: Vec<Due>,
-    // room for the octets of one read
-    piece: Vec<u8>,
+    /// What is due of each, as far as it is known: `More` if the capture has to be asked.
+    pub dues: Vec<Due>,
 }
 
 impl Merge {
-    ghost use Rattle.ioam_capture.specs.declared.turns.Due.TheVariants.{More};
-
-    // No captures, with room for so many.
-    pub(crate) fn new(alloc: Global, count: usize) -> Result<Merge, NoMemory>
-        ensures { IfOk result (λ merge. (merge.captures.items ≡ []) × (merge.dues.items ≡ []) × (vec_len merge.piece ≡ PIECE)) }
+    /// `count` captures, of which nothing was handed out.
+    pub fn new(alloc: Global, count: usize) -> Result<Merge, NoMemory>
+        ensures { IfOk result (Merging count (λ k. []) (λ k. false) []) }
     {
-        let captures = Vec::with_capacity(alloc, count)?;
-        let dues = Vec::with_capacity(alloc, count)?;
-        let piece = new_piece(alloc)?;
-        Ok(Merge {
-            captures,
-            dues,
-            piece,
-        })
+        let mut merge = Merge {
+            captures: Vec::with_capacity(alloc, count)?,
+            dues: Vec::with_capacity(alloc, count)?,
+        };
+        'captures: for _index in 0..count {
+            let reader = Reader::new(alloc)?;
+            merge.captures.push(Capture {
+                reader,
+                ended: false,
+            })?;
+            merge.dues.push(Due::More)?;
+        }
+        Ok(merge)
     }
 
-    // One capture more, of which nothing was read.
-    pub(crate) fn add(&mut self, feed: Feed) -> Result<(), NoMemory>
-        ensures captures { OnOk result (self.new.captures.items
-            ≡ self.old.captures.items ++ record { feed = feed; ended = false } ∷ []) }
-        ensures dues { OnOk result (self.new.dues.items ≡ self.old.dues.items ++ More ∷ []) }
-        ensures piece { self.new.piece ≡ self.old.piece }
-    {
-        let capture = Capture { feed, ended: false };
-        self.captures.push(capture)?;
-        self.dues.push(Due::More)?;
-        Ok(())
-    }
-
-    // Asks one capture what is due of it, if that isn't known.
-    fn show_one<D: Desk>(&mut self, desk: &mut D, place: usize) -> Result<(), DeskFault>
+    // Asks one capture what is due of it, if that isn't known. The answer is false if more of it is needed.
+    fn show_one(&mut self, place: usize) -> Result<bool, NoMemory>
         requires inside { place < vec_len self.old.captures }
-        requires merging { IsMerging D.tells (D.reading desk.old) self.old }
-        ensures shown { (start : Start) (taken : List Arrival) (known : AreKnown place self.old)
-            → Merging D.tells start (D.reading desk.old) self.old taken
-            → Shows D.tells start taken (D.reading desk.new) self.new (place + 1) result }
-        ensures same { OnOk result ((D.reading desk.new).side ≡ (D.reading desk.old).side) }
-        ensures cause { IfErr result (IsFaultOf (D.reading desk.old).side (D.reading desk.new).side) }
-        ensures asked { (D.reading desk.new).side.asked ≡ (D.reading desk.old).side.asked }
-        ensures slots { (D.reading desk.new).side.slots ≡ (D.reading desk.old).side.slots }
-        ensures outputs { D.writing desk.new ≡ D.writing desk.old }
+        requires merging { IsMerging self.old }
+        ensures shown { IfOk result (λ known. (n : ℕ) (fed : ℕ → List ℕ) (ended : ℕ → Bool) (taken : List Arrival) → Merging n fed ended taken self.old
+            → AreKnown place self.old → ShowsOne n fed ended taken self.new place known) }
         ensures count { vec_len self.new.captures ≡ vec_len self.old.captures }
-        ensures below { (start : Start) (taken : List Arrival) → Merging D.tells start (D.reading desk.old) self.old taken
-            → EndsKept start.base (D.reading desk.old) (D.reading desk.new) }
+        ensures room { room_of self.new.captures.items ≡ room_of self.old.captures.items }
     {
         match self.dues[place] {
             Due::More => {}
-            _ => return Ok(()),
+            _ => return Ok(true),
         }
-        let piece = self.piece.as_mut_slice();
-        match self.captures[place].show(desk, piece) {
-            Ok(due) => {
+        let capture = &mut self.captures[place];
+        match capture.reader.due(capture.ended)? {
+            Due::More => Ok(false),
+            due => {
                 self.dues[place] = due;
-                Ok(())
+                Ok(true)
             }
-            Err(fault) => Err(fault),
         }
     }
 
-    // Asks each capture what is due of it, if that isn't known.
-    fn show_all<D: Desk>(&mut self, desk: &mut D) -> Result<(), DeskFault>
-        requires { IsMerging D.tells (D.reading desk.old) self.old }
-        ensures shown { (start : Start) (taken : List Arrival) → Merging D.tells start (D.reading desk.old) self.old taken
-            → Shows D.tells start taken (D.reading desk.new) self.new (length self.new.captures.items) result }
-        ensures same { OnOk result ((D.reading desk.new).side ≡ (D.reading desk.old).side) }
-        ensures cause { IfErr result (IsFaultOf (D.reading desk.old).side (D.reading desk.new).side) }
-        ensures asked { (D.reading desk.new).side.asked ≡ (D.reading desk.old).side.asked }
-        ensures slots { (D.reading desk.new).side.slots ≡ (D.reading desk.old).side.slots }
-        ensures outputs { D.writing desk.new ≡ D.writing desk.old }
-        ensures below { (start : Start) (taken : List Arrival) → Merging D.tells start (D.reading desk.old) self.old taken
-            → EndsKept start.base (D.reading desk.old) (D.reading desk.new) }
+    /// Asks the captures in their order what is due of them. The answer is the index of the first of which more is needed, or
+    /// none: then it is known what is due of all.
+    pub fn show(&mut self) -> Result<Option<usize>, NoMemory>
+        requires { IsMerging self.old }
+        ensures shows { IfOk result (λ short. (n : ℕ) (fed : ℕ → List ℕ) (ended : ℕ → Bool) (taken : List Arrival) → Merging n fed ended taken self.old
+            → Shows n fed ended taken self.new short) }
+        ensures room { room_of self.new.captures.items ≡ room_of self.old.captures.items }
     {
         'captures: for place in 0..self.captures.len() {
-            self.show_one(desk, place)?;
+            match self.show_one(place) {
+                Ok(true) => {}
+                Ok(false) => return Ok(Some(place)),
+                Err(NoMemory) => return Err(NoMemory),
+            }
         }
-        Ok(())
+        Ok(None)
     }
 
-    /// What comes next, behind 16,777,216 records at most. Captures are asked in order, and pieces
-    /// of them are read, until each shows its next record, its end or its fault. After `Next` the
-    /// capture has to be asked again: its record is taken by its reader's `next`.
-    ///
-    /// A piece is read only where the octets of a capture show nothing more, so that less than a
-    /// record or block and a piece of each capture is in memory.
-    ///
-    /// `Failed`: a read failed, and the desk's count of faults rose. `NoMemory`: octets of a capture
-    /// may be lost. After either the merge can't be asked again. `Unshown` is never the answer.
-    pub fn turn<D: Desk>(&mut self, desk: &mut D) -> Result<Turn, DeskFault>
-        requires { IsMerging D.tells (D.reading desk.old) self.old }
-        ensures turns { (start : Start) (taken : List Arrival) → Merging D.tells start (D.reading desk.old) self.old taken
-            → Turns D.tells start taken (D.reading desk.new) self.new result }
-        ensures same { OnOk result ((D.reading desk.new).side ≡ (D.reading desk.old).side) }
-        ensures cause { IfErr result (IsFaultOf (D.reading desk.old).side (D.reading desk.new).side) }
-        ensures asked { (D.reading desk.new).side.asked ≡ (D.reading desk.old).side.asked }
-        ensures slots { (D.reading desk.new).side.slots ≡ (D.reading desk.old).side.slots }
-        ensures outputs { D.writing desk.new ≡ D.writing desk.old }
-        ensures below { (start : Start) (taken : List Arrival) → Merging D.tells start (D.reading desk.old) self.old taken
-            → EndsKept start.base (D.reading desk.old) (D.reading desk.new) }
+    /// What comes next, once it is known what is due of all.
+    pub fn turn(&self) -> Turn
+        ensures { (n : ℕ) (fed : ℕ → List ℕ) (ended : ℕ → Bool) (taken : List Arrival) → Merging n fed ended taken self.now → AreKnown n self.now
+            → Turns n fed ended taken self.now result }
     {
-        self.show_all(desk)?;
-        let turn = next_turn(&self.dues);
-        if let Turn::Next { place, .. } = turn {
-            self.dues[place] = Due::More;
-        }
-        Ok(turn)
+        next_turn(&self.dues)
+    }
+
+    /// Hands out a piece, of at most 65,536 octets, of a capture of which more is needed.
+    pub fn feed(&mut self, place: usize, piece: &[u8]) -> Result<(), NoMemory>
+        requires short { IsShortOf self.old place }
+        requires some { 0 < length piece.now }
+        requires few { length piece.now ≤ 65536 }
+        ensures fed { OnOk result ((n : ℕ) (fed : ℕ → List ℕ) (ended : ℕ → Bool) (after_fed : ℕ → List ℕ) (after_ended : ℕ → Bool) (taken : List Arrival)
+            → IsFed place piece.now fed ended after_fed after_ended → Merging n fed ended taken self.old → ended place ≡ false → Merging n after_fed after_ended taken self.new) }
+        ensures room { OnOk result (room_of self.new.captures.items < room_of self.old.captures.items) }
+    {
+        self.captures[place].reader.feed(piece)
+    }
+
+    /// Notes the end of a capture of which more is needed.
+    pub fn end(&mut self, place: usize)
+        requires { IsShortOf self.old place }
+        ensures ended { (n : ℕ) (fed : ℕ → List ℕ) (ended : ℕ → Bool) (after_fed : ℕ → List ℕ) (after_ended : ℕ → Bool) (taken : List Arrival)
+            → IsEnded place fed ended after_fed after_ended → Merging n fed ended taken self.old → ended place ≡ false → Merging n after_fed after_ended taken self.new }
+        ensures room { room_of self.new.captures.items < room_of self.old.captures.items }
+    {
+        self.captures[place].ended = true;
     }
 }

@@ -8,8 +8,9 @@ use Rattle.ioam_run_arrivals.specs.Texts.{texts_so_far, texts_of}
 use Rattle.ioam_run_arrivals.specs.Forwarding.{Forwards}
 use Rattle.ioam_run_arrivals.specs.declared.forwarding.Forwarding.{Forwarding}
 use Rattle.ioam_run_arrivals.proofs.OneFateLaws.{AreFates-unique}
-use Rattle.ioam_capture_merge.specs.Merging.{Merging, start_of}
-use Rattle.ioam_capture_merge.specs.declared.merge.Merge.{Merge}
+use Rattle.ioam_capture_merge.specs.Inputs.{Merged}
+use Rattle.ioam_capture_merge.specs.Merging.{start_of}
+use Rattle.ioam_capture_merge.specs.declared.inputs.Inputs.{Inputs}
 use Rattle.ioam_run_arrivals.specs.Outlets.{outlet_count, of_outlets}
 use Rattle.ioam_run_arrivals.proofs.OutletsLaws.{length-of_outlets}
 use Rattle.ioam_desk_outputs.specs.Held.{HoldAllFronts, HoldFronts}
@@ -21,7 +22,7 @@ use Rattle.ioam_topo.specs.declared.domain.Domain.{Domain}
 use Rattle.ioam_topo.specs.declared.ids.PortId.{PortId}
 use Rattle.ioam_run_traffic.specs.Traffic.{AllOpened, HoldsFronts, IsTimely, AreOpened, Files, files_of, course_with}
 use Rattle.ioam_run_traffic.specs.Running.{Fronts, Running}
-use Rattle.ioam_run_traffic.proofs.RunsLaws.{Merging-begins}
+use Rattle.ioam_capture_merge.proofs.InputsLaws.{merged_begins}
 
 -- all were opened by a call, and other calls opened none
 pub all_opened : (old mid new : Side) (names : List (List ℕ)) → mid ≡ opened_each old names → new.asked ≡ mid.asked → new.slots ≡ mid.slots
@@ -33,8 +34,8 @@ all_texts : (domain : Domain) (port tap : ℕ → List ℕ) (report exports : Li
     → length (of_outlets domain port tap report exports) ≡ length names
 all_texts domain port tap report exports names width = length-of_outlets domain port tap report exports ∙ sym width
 
-module _ (tells opens : Bool) (domain : Domain) (readings : List (List Sample)) (ports : List PortId) (files : Files) (inputs : Reading) (merge : Merge)
-    (are : Merging tells files.lanes inputs merge []) where
+module _ (tells opens : Bool) (domain : Domain) (readings : List (List Sample)) (ports : List PortId) (files : Files) (inputs : Reading) (merge : Inputs)
+    (are : Merged tells files.lanes inputs merge []) where
   module _ (outputs : Writing) (old : List Output) (told : AreTold tells outputs files.first files.names old (unsaid files.names))
       (width : length old ≡ outlet_count domain) where
     as_many : length files.names ≡ outlet_count domain
@@ -42,7 +43,7 @@ module _ (tells opens : Bool) (domain : Domain) (readings : List (List Sample)) 
 
     -- the heads were told
     pub Running-begin : (gathered : Forwarding) (tellers : List Output) → Adds old tellers (texts_so_far domain readings []) → Forwards opens domain readings [] (texts_so_far domain readings []) gathered
-        → Running tells (course_with opens domain readings ports files) inputs outputs (record { merge = merge; gathered = gathered }) tellers
+        → Running tells (course_with opens domain readings ports files) inputs outputs (record { captures = merge; gathered = gathered }) tellers
     Running-begin gathered tellers adds forwards =
         let P : List (List ℕ) → Type 0 = λ texts. AreTold tells outputs files.first files.names tellers texts in
         record {
@@ -60,7 +61,7 @@ module _ (tells opens : Bool) (domain : Domain) (readings : List (List Sample)) 
     pub Fronts-begin : IsTrue tells → Fronts tells (course_with opens domain readings ports files) outputs
     Fronts-begin tells_so = record {
       taken = [];
-      begin = Merging-begins tells files.lanes inputs merge [] are tells_so;
+      begin = merged_begins tells files.lanes inputs merge [] are tells_so;
       few = omega arith;
       timely = All-nil IsTimely;
       hold = record {
@@ -84,7 +85,7 @@ module _ (tells opens : Bool) (domain : Domain) (readings : List (List Sample)) 
       record {
         taken = [];
         fates = [];
-        begin = Merging-begins tells files.lanes inputs merge [] are tells_so;
+        begin = merged_begins tells files.lanes inputs merge [] are tells_so;
         few = omega arith;
         timely = All-nil IsTimely;
         become = tt;
@@ -101,11 +102,11 @@ module _ (files : Files) (ins outs : List (List ℕ)) (reading : Reading) (writi
       → AreOpened (course_with opens domain readings ports files) new
   known_opened opens domain readings ports new slots = omega (arith, slots, known_sized, ap (λ (f : Files). f.lanes.base) known)
 
-  pub known_merging : (tells : Bool) (inputs now : Reading) (merge : Merge) → now ≡ inputs
-      → Merging tells (start_of reading.side.slots writing ins) inputs merge [] → Merging tells files.lanes now merge []
+  pub known_merging : (tells : Bool) (inputs now : Reading) (merge : Inputs) → now ≡ inputs
+      → Merged tells (start_of reading.side.slots writing ins) inputs merge [] → Merged tells files.lanes now merge []
   known_merging tells inputs now merge same are =
-      let P : Files → Type 0 = λ f. Merging tells f.lanes now merge [] in
-      let Q : Reading → Type 0 = λ r. Merging tells (start_of reading.side.slots writing ins) r merge [] in
+      let P : Files → Type 0 = λ f. Merged tells f.lanes now merge [] in
+      let Q : Reading → Type 0 = λ r. Merged tells (start_of reading.side.slots writing ins) r merge [] in
       subst P (sym known) (subst Q (sym same) are)
 
   pub known_told : (tells : Bool) (outputs : Writing) (slot : ℕ) (items tellers : List Output) → tellers ≡ items → slot ≡ writing.side.slots
@@ -117,8 +118,8 @@ module _ (files : Files) (ins outs : List (List ℕ)) (reading : Reading) (writi
       subst P (sym known) (subst R number (subst Q (sym same) told))
 
   -- not all outputs were opened, and nothing was taken
-  pub known_fronts : (tells opens : Bool) (domain : Domain) (readings : List (List Sample)) (ports : List PortId) (inputs : Reading) (merge : Merge)
-      → Merging tells (start_of reading.side.slots writing ins) inputs merge [] → (mid new : Writing) → mid ≡ writing
+  pub known_fronts : (tells opens : Bool) (domain : Domain) (readings : List (List Sample)) (ports : List PortId) (inputs : Reading) (merge : Inputs)
+      → Merged tells (start_of reading.side.slots writing ins) inputs merge [] → (mid new : Writing) → mid ≡ writing
       → length outs ≡ outlet_count domain
       → ((texts : List (List ℕ)) → length texts ≡ length outs → HoldFronts mid new 0 outs texts)
       → IsTrue tells → HoldsFronts (course_with opens domain readings ports files) writing new

@@ -1,7 +1,5 @@
 -- Laws of the traffic while it runs.
-use Rattle.std.proofs.Common.{◌≡◌, ℕ, ◌+◌, ◌<◌, ◌≤◌, Bool, IsTrue, List, [], ◌∷◌, ◌++◌, length, Option, refl, sym, subst, arith}
-use Rattle.std.specs.Prelude.{map}
-use Rattle.std.specs.List.{AllZip}
+use Rattle.std.proofs.Common.{◌≡◌, ℕ, ◌+◌, ◌<◌, ◌≤◌, Bool, IsTrue, List, [], ◌∷◌, ◌++◌, length, refl, sym, subst, arith}
 use Rattle.std.proofs.lemmas.List.{map-append, length-map}
 use Rattle.std.proofs.lemmas.List.Elements.{All-append, All-cons, All-nil}
 use Rattle.ioam_desk.specs.Desk.{Reading, Writing}
@@ -11,19 +9,16 @@ use Rattle.ioam_run_arrivals.specs.Texts.{way_of}
 use Rattle.ioam_run_arrivals.proofs.OneFateLaws.{AreFates-length}
 use Rattle.ioam_run_arrivals.specs.Forwarding.{Forwards, taken}
 use Rattle.ioam_run_arrivals.specs.declared.forwarding.Forwarding.{Forwarding}
-use Rattle.ioam_capture_merge.specs.Merging as merging
-use Rattle.ioam_capture_merge.specs.Merging.{Begins, IsFile, FilesBegin, Row, Merging, Comes}
-use Rattle.ioam_capture_merge.specs.declared.merge.Merge.{Merge}
-use Rattle.ioam_capture_merge.proofs.MergingLaws.{Begins-on, files_are, files_on, Rows-begin}
+use Rattle.ioam_capture_merge.specs.Inputs.{IsNext, Merged}
+use Rattle.ioam_capture_merge.specs.Merging.{FilesBegin}
+use Rattle.ioam_capture_merge.specs.declared.inputs.Inputs.{Inputs}
+use Rattle.ioam_capture_merge.proofs.InputsLaws.{merged_begins, next_begins, next_merged}
 use Rattle.ioam_desk_outputs.specs.Held.{HoldAllFronts}
 use Rattle.ioam_desk_outputs.specs.Told.{AreTold, Adds, said_more}
 use Rattle.ioam_desk_outputs.specs.declared.output.Output.{Output}
 use Rattle.ioam_desk_outputs.proofs.HeldLaws.{AreTold-fronts}
 use Rattle.ioam_desk_outputs.proofs.ToldLaws.{AreTold-adds}
-use Rattle.ioam_capture.specs.Arrives.{Handed, HandsOn}
-use Rattle.ioam_pcap.specs.Entries.{Taken}
-use Rattle.ioam_capture.specs.Merge.{Arrival, CanTake, IsNext, arrival, of_capture, rest}
-use Rattle.ioam_capture.proofs.MergeLaws.{Takes-push}
+use Rattle.ioam_capture.specs.Merge.{Arrival}
 use Rattle.ioam_topo.specs.declared.domain.Domain.{Domain}
 use Rattle.ioam_topo.specs.declared.ids.PortId.{PortId}
 use Rattle.ioam_pcap.specs.Link.{is_ethernet}
@@ -137,57 +132,29 @@ module _ (tells : Bool) (course : Course) (Were : List Arrival → Type 0) (outp
   pub Runs-fronts_here : FilesBegin course.lanes.contents runs.taken → IsTrue tells → Fronts tells course outputs
   Runs-fronts_here begin told = Runs-fronts outputs begin (AreTold-fronts tells outputs course.first course.names tellers runs.texts told runs.told)
 
-module _ (tells : Bool) (lanes : merging.Start) (inputs : Reading) (merge : Merge) (arrivals : List Arrival) where
-  -- what was taken comes first
-  pub Merging-begins : Merging tells lanes inputs merge arrivals → IsTrue tells → FilesBegin lanes.contents arrivals
-  Merging-begins is told = Rows-begin tells lanes arrivals inputs is.rows is.are_rows told
-
-  -- and one record more does, where one comes
-  begin_more : (contents : List (Option (List ℕ))) (parts files : List Handed) (later : List Arrival)
-      → AllZip IsFile contents files → AllZip HandsOn parts files → Begins parts later → FilesBegin contents later
-  begin_more contents parts files later are on begins = record { files = files; are_files = are; begin = Begins-on parts files later on begins }
-
-  pub Comes-begins : (place time : ℕ) → Comes tells lanes inputs merge arrivals place time → IsTrue tells
-      → (next : Arrival) × FilesBegin lanes.contents (arrivals ++ next ∷ [])
-  Comes-begins place time comes told =
-      let is = comes.merging in
-      let are = is.are_rows in
-      let now = are.begins.now in
-      let parts : List Handed = map (λ (row : Row). row.handed) is.rows in
-      let given : ℕ → List Taken = λ k. of_capture k arrivals in
-      let can : CanTake now = subst IsNext (sym comes.next) tt in
-      let longer : Begins parts (arrivals ++ arrival now ∷ []) = record {
-        streams = are.begins.streams;
-        now = rest now;
-        shown = are.begins.shown;
-        takes = Takes-push are.begins.streams arrivals now are.begins.takes can;
-      } in
-      let of_rows = begin_more (map (λ (row : Row). row.content) is.rows) parts _ (arrivals ++ arrival now ∷ [])
-      (files_are tells inputs told lanes.base is.rows given are.each) (files_on tells inputs told lanes.base is.rows given are.each) longer in
-      (arrival now, subst (λ cs. FilesBegin cs (arrivals ++ arrival now ∷ [])) (sym are.contents) of_rows)
-
 module _ (tells : Bool) (course : Course) (inputs : Reading) (outputs : Writing) (progress : Progress) (tellers : List Output) where
   -- while traffic runs no output holds more than a front
   pub Running-fronts : Running tells course inputs outputs progress tellers → IsTrue tells → Fronts tells course outputs
-  Running-fronts runs told = Runs-fronts_here tells course (Merging tells course.lanes inputs progress.merge) outputs progress.gathered tellers runs
-      (Merging-begins tells course.lanes inputs progress.merge runs.taken runs.are told) told
+  Running-fronts runs told = Runs-fronts_here tells course (Merged tells course.lanes inputs progress.captures) outputs progress.gathered tellers runs
+      (merged_begins tells course.lanes inputs progress.captures runs.taken runs.are told) told
 
   module _ (place : ℕ) (coming : Coming tells course place inputs outputs progress tellers) where
     pub Coming-running : Running tells course inputs outputs progress tellers
-    Coming-running = Runs-so tells course (λ arrivals. (time : ℕ) × Comes tells course.lanes inputs progress.merge arrivals place time)
-        outputs progress.gathered tellers coming (Merging tells course.lanes inputs progress.merge) coming.are.1.merging
+    Coming-running = Runs-so tells course (λ arrivals. (time : ℕ) × IsNext tells course.lanes inputs progress.captures arrivals place time)
+        outputs progress.gathered tellers coming (Merged tells course.lanes inputs progress.captures)
+        (next_merged tells course.lanes inputs progress.captures coming.taken place coming.are.0 coming.are.1)
 
     -- as many were taken as may be
     pub Coming-passed : course.domain.packets ≤ taken progress.gathered → Halted tells course (ArePassed course) outputs progress.gathered tellers
     Coming-passed full =
         let (time, comes) = coming.are in
-        let count = Runs-count tells course (λ arrivals. (time : ℕ) × Comes tells course.lanes inputs progress.merge arrivals place time)
+        let count = Runs-count tells course (λ arrivals. (time : ℕ) × IsNext tells course.lanes inputs progress.captures arrivals place time)
         outputs progress.gathered tellers coming in
-        Runs-so tells course (λ arrivals. (time : ℕ) × Comes tells course.lanes inputs progress.merge arrivals place time)
+        Runs-so tells course (λ arrivals. (time : ℕ) × IsNext tells course.lanes inputs progress.captures arrivals place time)
         outputs progress.gathered tellers coming (λ arrivals. IsTrue tells → FilesBegin course.lanes.contents arrivals × ArePassed course arrivals)
         (λ told.
-        let (next, begin) = Comes-begins tells course.lanes inputs progress.merge coming.taken place time comes told in (
-          Merging-begins tells course.lanes inputs progress.merge coming.taken comes.merging told,
+        let (next, begin) = next_begins tells course.lanes inputs progress.captures coming.taken place time comes told in (
+          merged_begins tells course.lanes inputs progress.captures coming.taken (next_merged tells course.lanes inputs progress.captures coming.taken place time comes) told,
           record { all = omega (arith, full, count, coming.few); next = next; begin = begin },
         ))
 
@@ -198,17 +165,17 @@ module _ (tells : Bool) (course : Course) (inputs : Reading) (outputs now : Writ
   pub Running-halted : (Are : List Arrival → Type 0) → (IsTrue tells → Are running.taken) → Halted tells course Are now progress.gathered tellers
   Running-halted Are are =
       let P : Writing → Type 0 = λ w. Halted tells course Are w progress.gathered tellers in
-      subst P (sym same) (Runs-so tells course (Merging tells course.lanes inputs progress.merge) outputs progress.gathered tellers running
+      subst P (sym same) (Runs-so tells course (Merged tells course.lanes inputs progress.captures) outputs progress.gathered tellers running
       (λ arrivals. IsTrue tells → FilesBegin course.lanes.contents arrivals × Are arrivals)
-      (λ told. (Merging-begins tells course.lanes inputs progress.merge running.taken running.are told, are told)))
+      (λ told. (merged_begins tells course.lanes inputs progress.captures running.taken running.are told, are told)))
 
   -- a record comes next
-  pub Running-coming : (later : Reading) (merge : Merge) (place time : ℕ) → Comes tells course.lanes later merge running.taken place time
-      → Runs tells course (λ arrivals. (time : ℕ) × Comes tells course.lanes later merge arrivals place time) now progress.gathered tellers
-  Running-coming later merge place time comes =
-      let Q : List Arrival → Type 0 = λ arrivals. (time : ℕ) × Comes tells course.lanes later merge arrivals place time in
+  pub Running-coming : (later : Reading) (captures : Inputs) (place time : ℕ) → IsNext tells course.lanes later captures running.taken place time
+      → Runs tells course (λ arrivals. (time : ℕ) × IsNext tells course.lanes later captures arrivals place time) now progress.gathered tellers
+  Running-coming later captures place time comes =
+      let Q : List Arrival → Type 0 = λ arrivals. (time : ℕ) × IsNext tells course.lanes later captures arrivals place time in
       let P : Writing → Type 0 = λ w. Runs tells course Q w progress.gathered tellers in
-      subst P (sym same) (Runs-so tells course (Merging tells course.lanes inputs progress.merge) outputs progress.gathered tellers running Q (time, comes))
+      subst P (sym same) (Runs-so tells course (Merged tells course.lanes inputs progress.captures) outputs progress.gathered tellers running Q (time, comes))
 
   -- no output holds more than a front
   pub Running-fronts_now : IsTrue tells → Fronts tells course now

@@ -6,7 +6,8 @@ use Rattle.ioam_run_arrivals.specs.Fate.{Frame, Fate, AreFates}
 use Rattle.ioam_run_arrivals.specs.Texts.{texts_of}
 use Rattle.ioam_run_arrivals.specs.Forwarding.{Forwards}
 use Rattle.ioam_run_arrivals.specs.declared.forwarding.Forwarding.{Forwarding}
-use Rattle.ioam_capture_merge.specs.Merging.{Merging, Comes, FilesBegin, PartsArrive, HaveEnded}
+use Rattle.ioam_capture_merge.specs.Inputs.{IsNext, Merged}
+use Rattle.ioam_capture_merge.specs.Merging.{FilesBegin, PartsArrive, HaveEnded}
 use Rattle.ioam_desk_outputs.specs.Held.{HoldAllFronts}
 use Rattle.ioam_desk_outputs.specs.Told.{AreTold}
 use Rattle.ioam_desk_outputs.specs.declared.output.Output.{Output}
@@ -37,11 +38,11 @@ module _ (tells : Bool) (course : Course) where
 
   -- they were taken of the captures
   abbrev pub Running : Reading → Writing → Progress → List Output → Type 0
-  Running inputs outputs progress tellers = Runs (Merging tells course.lanes inputs progress.merge) outputs progress.gathered tellers
+  Running inputs outputs progress tellers = Runs (Merged tells course.lanes inputs progress.captures) outputs progress.gathered tellers
 
   -- and the next record is of the capture at this place
   abbrev pub Coming : ℕ → Reading → Writing → Progress → List Output → Type 0
-  Coming place inputs outputs progress tellers = Runs (λ taken. (time : ℕ) × Comes tells course.lanes inputs progress.merge taken place time)
+  Coming place inputs outputs progress tellers = Runs (λ taken. (time : ℕ) × IsNext tells course.lanes inputs progress.captures taken place time)
       outputs progress.gathered tellers
 
   -- where the desk tells they are the first that the files hold, and so on

@@ -2,15 +2,15 @@
 ghost use Rattle.std.specs.Prelude.{◌≡◌, ◌+◌, ◌<◌, ◌^◌, All, Bool, IsTrue, List, OnOk, length};
 ghost use Rattle.ioam_desk.specs.Desk.{Reading, Writing};
 ghost use Rattle.ioam_run_arrivals.specs.Forwarding.{IsOf, has_room, taken};
-ghost use Rattle.ioam_capture_merge.specs.Merging.{IsComing};
+ghost use Rattle.ioam_capture_merge.specs.Inputs.{IsComing};
 ghost use Rattle.ioam_desk_outputs.specs.declared.output.Output.{Output};
 ghost use Rattle.ioam_topo.specs.Domain.{ports as ports_of};
 ghost use Rattle.ioam_run_traffic.specs.Running.{Coming, Running};
 ghost use Rattle.ioam_run_traffic.specs.Traffic.{Files, course_with};
 
 use ioam_base::memory::NoMemory;
-use ioam_capture::Step;
-use ioam_capture_merge::Merge;
+use ioam_capture::{Due, Step};
+use ioam_capture_merge::Inputs;
 use ioam_clock::Readings;
 use ioam_pcap::is_ethernet;
 use ioam_run_arrivals::{Arrival, Forwarding};
@@ -20,7 +20,7 @@ use std::alloc::Global;
 /// The captures that are merged, and what is gathered of their records.
 #[derive(Drop)]
 pub struct Progress {
-    pub merge: Merge,
+    pub captures: Inputs,
     pub gathered: Forwarding,
 }
 
@@ -35,7 +35,7 @@ impl Progress {
         ports: &[PortId],
         place: usize,
     ) -> Result<(), NoMemory>
-        requires coming { IsComing self.old.merge place }
+        requires coming { IsComing self.old.captures place }
         requires of { IsOf domain.now self.old.gathered }
         requires room { IsTrue (has_room self.old.gathered) }
         requires inside { All (λ port. port.0 < length (ports_of domain.now)) ports.now }
@@ -48,8 +48,9 @@ impl Progress {
             → Running tells (course_with opens domain.now readings.now ports.now files) inputs writing self.new tellers) }
     {
         let port = ports[place];
-        let capture = &mut self.merge.captures[place];
-        match capture.feed.reader.next() {
+        self.captures.merge.dues[place] = Due::More;
+        let capture = &mut self.captures.merge.captures[place];
+        match capture.reader.next() {
             Step::Packet { link, packet } => {
                 let ethernet = is_ethernet(link);
                 let arrival = Arrival {

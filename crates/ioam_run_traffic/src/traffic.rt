@@ -2,7 +2,8 @@
 ghost use Rattle.std.specs.Prelude.{◌≡◌, ◌≢◌, ◌↔◌, ◌⊎◌, ◌+◌, ◌<◌, ◌≤◌, ◌++◌, [], All, IsTrue, length};
 ghost use Rattle.ioam_desk.specs.Asked.{AsksFront, HaveSlots};
 ghost use Rattle.ioam_desk.specs.Kept.{KeepsOutputs, WritesFrom};
-ghost use Rattle.ioam_capture_merge.specs.Merging.{AreUnread, EndsKept, Merging, start_of};
+ghost use Rattle.ioam_capture_merge.specs.Inputs.{Merged};
+ghost use Rattle.ioam_capture_merge.specs.Merging.{AreUnread, EndsKept, start_of};
 ghost use Rattle.ioam_run_arrivals.specs.Outlets.{outlet_count};
 ghost use Rattle.ioam_desk_outputs.specs.Names.{AreApart};
 ghost use Rattle.ioam_desk_outputs.specs.Told.{AreTold, GathersFew, GathersNothing, unsaid};
@@ -17,7 +18,7 @@ use crate::rest::put_rest;
 use crate::terms::Terms;
 use crate::turns::carry_on;
 use ioam_base::name::Name;
-use ioam_capture_merge::{Merge, open_merge};
+use ioam_capture_merge::{Inputs, open_merge};
 use ioam_clock::Readings;
 use ioam_desk::{Desk, DeskFault};
 use ioam_desk_outputs::{Output, open_outputs};
@@ -114,8 +115,8 @@ fn run_files<R: Threads + Sync, D: Desk, G: Gate>(
     ensures kept { EndsKept (D.reading desk.old).side.slots (D.reading desk.old) (D.reading desk.new) }
     ensures kept_out { IsTrue D.tells → KeepsOutputs (D.writing desk.old) (D.writing desk.new) }
 {
-    let merge = match open_merge(alloc, desk, inputs) {
-        Ok(merge) => merge,
+    let captures = match open_merge(alloc, desk, inputs) {
+        Ok(captures) => captures,
         Err(DeskFault::Failed) => return Halt::ReadFault,
         Err(DeskFault::NoMemory) => return Halt::NoMemory,
     };
@@ -128,7 +129,7 @@ fn run_files<R: Threads + Sync, D: Desk, G: Gate>(
         ports,
     };
     match open_outputs(alloc, desk, outputs) {
-        Ok(mut outputs) => run_open(&terms, alloc, desk, merge, &mut outputs),
+        Ok(mut outputs) => run_open(&terms, alloc, desk, captures, &mut outputs),
         Err(DeskFault::Failed) => Halt::WriteFault,
         Err(DeskFault::NoMemory) => Halt::NoMemory,
     }
@@ -139,12 +140,12 @@ fn run_open<R: Threads + Sync, D: Desk, G: Gate>(
     terms: &Terms<'_, R, G>,
     alloc: Global,
     desk: &mut D,
-    merge: Merge,
+    captures: Inputs,
     outputs: &mut [Output],
 ) -> Halt
     ghost files: { Files }
     requires staffed { (1 ≤ terms.now.workers) × (terms.now.workers ≤ 64) }
-    requires merging { Merging D.tells files.lanes (D.reading desk.old) merge [] }
+    requires merged { Merged D.tells files.lanes (D.reading desk.old) captures [] }
     requires told { AreTold D.tells (D.writing desk.old) files.first files.names outputs.old (unsaid files.names) }
     requires sized { length terms.now.ports.now ≡ length files.lanes.contents }
     requires inside { All (λ port. port.0 < length (ports_of terms.now.domain.now)) terms.now.ports.now }
@@ -165,7 +166,7 @@ fn run_open<R: Threads + Sync, D: Desk, G: Gate>(
     let Ok(gathered) = Forwarding::begin(alloc, terms.domain, outputs) else {
         return Halt::NoMemory;
     };
-    let mut progress = Progress { merge, gathered };
+    let mut progress = Progress { captures, gathered };
     run_begun(terms, alloc, desk, &mut progress, outputs)
 }
 

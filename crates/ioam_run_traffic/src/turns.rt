@@ -146,7 +146,7 @@ pub fn carry_on<R: Threads + Sync, D: Desk, G: Gate>(
     ensures kept_out { WritesFrom files.first (D.writing desk.old) (D.writing desk.new) }
 {
     'turns: loop {
-        let place = match progress.merge.turn(desk) {
+        let place = match progress.captures.turn(desk) {
             Ok(Turn::Next { place, .. }) => place,
             Ok(Turn::Over) => return Halt::Over,
             Ok(Turn::Broken { place, at, fault }) => return Halt::Broken { place, at, fault },

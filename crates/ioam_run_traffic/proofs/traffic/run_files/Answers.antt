@@ -41,7 +41,7 @@ run_open-requires g c κs within =
                 c.requires.1.1.1.1.1.0,
                 (
                   known_merging g.files ins outs reading writing c.requires.1.1.1.1.1.1.0 g.D.Desk.tells (g.D.Desk.reading c.open_merge.new.desk) (g.D.Desk.reading c.open_outputs.new.desk)
-                      c.in-Ok.merge c.in-Ok-open_outputs.ensures.inputs c.in-Ok.ensures.opened,
+                      c.in-Ok.captures c.in-Ok-open_outputs.ensures.inputs c.in-Ok.ensures.opened,
                   (
                     known_told g.files ins outs reading writing c.requires.1.1.1.1.1.1.0 g.D.Desk.tells (g.D.Desk.writing c.open_outputs.new.desk)
                         (g.D.Desk.writing c.open_merge.new.desk).side.slots c.in-Ok-open_outputs.outputs.items c.deref_mut.result.now c.deref_mut.ensures.value
@@ -87,7 +87,7 @@ returns-in-Err-Failed-open_outputs-clause-finishes g c =
     let fault = rw c.in-Err-Failed-open_outputs.field-0-is at c.in-Err-Failed-open_outputs.ensures.fault in (
       omega (arith, fault.0, ap (λ (w : Writing). w.side.faults) c.in-Ok.ensures.outputs),
       λ told. known_fronts g.files c.args.inputs.now c.args.outputs.now (g.D.Desk.reading c.args.desk.now) (g.D.Desk.writing c.args.desk.now) c.requires.1.1.1.1.1.1.0
-          g.D.Desk.tells g.G.Gate.opens c.args.domain.now c.args.readings.now c.args.ports.now (g.D.Desk.reading c.open_merge.new.desk) c.in-Ok.merge c.in-Ok.ensures.opened
+          g.D.Desk.tells g.G.Gate.opens c.args.domain.now c.args.readings.now c.args.ports.now (g.D.Desk.reading c.open_merge.new.desk) c.in-Ok.captures c.in-Ok.ensures.opened
           (g.D.Desk.writing c.open_merge.new.desk) (g.D.Desk.writing c.open_outputs.new.desk) c.in-Ok.ensures.outputs c.requires.1.1.1.1.1.1.1.1.1.0 (fault.1 told) told,
     )
 
@@ -95,7 +95,7 @@ pub returns-clause-finishes : goal.returns-clause-finishes
 returns-clause-finishes g c =
     let fault = rw c.in-Err-NoMemory-open_outputs.field-0-is at c.in-Err-NoMemory-open_outputs.ensures.fault in
     inr (λ told. known_fronts g.files c.args.inputs.now c.args.outputs.now (g.D.Desk.reading c.args.desk.now) (g.D.Desk.writing c.args.desk.now) c.requires.1.1.1.1.1.1.0
-    g.D.Desk.tells g.G.Gate.opens c.args.domain.now c.args.readings.now c.args.ports.now (g.D.Desk.reading c.open_merge.new.desk) c.in-Ok.merge c.in-Ok.ensures.opened
+    g.D.Desk.tells g.G.Gate.opens c.args.domain.now c.args.readings.now c.args.ports.now (g.D.Desk.reading c.open_merge.new.desk) c.in-Ok.captures c.in-Ok.ensures.opened
     (g.D.Desk.writing c.open_merge.new.desk) (g.D.Desk.writing c.open_outputs.new.desk) c.in-Ok.ensures.outputs c.requires.1.1.1.1.1.1.1.1.1.0 (fault.1 told) told)
 
 pub returns-in-Ok-open_outputs-clause-kept : goal.returns-in-Ok-open_outputs-clause-kept

@@ -7,7 +7,7 @@ use Rattle.ioam_run_traffic.proofs.traffic.run_open.Goals as goal
 
 pub returns-in_default-clause-ends : goal.returns-in_default-clause-ends
 returns-in_default-clause-ends g c =
-    Fronts-begin g.D.Desk.tells g.G.Gate.opens c.args.terms.now.domain.now c.args.terms.now.readings.now c.args.terms.now.ports.now g.files (g.D.Desk.reading c.args.desk.now) c.args.merge c.requires.1.1.1.1.1.1.0
+    Fronts-begin g.D.Desk.tells g.G.Gate.opens c.args.terms.now.domain.now c.args.terms.now.readings.now c.args.terms.now.ports.now g.files (g.D.Desk.reading c.args.desk.now) c.args.captures c.requires.1.1.1.1.1.1.0
     (g.D.Desk.writing c.args.desk.now) c.args.outputs.now c.requires.1.1.1.1.1.1.1.0 c.requires.1.1.1.1.1.1.1.1.1.1.0
 
 pub run_begun-requires : goal.run_begun-requires
@@ -24,7 +24,7 @@ run_begun-requires g c κs within = (
           (
             c.requires.1.1.1.1.1.0,
             (
-              Running-begin g.D.Desk.tells g.G.Gate.opens c.args.terms.now.domain.now c.args.terms.now.readings.now c.args.terms.now.ports.now g.files (g.D.Desk.reading c.args.desk.now) c.args.merge c.requires.1.1.1.1.1.1.0
+              Running-begin g.D.Desk.tells g.G.Gate.opens c.args.terms.now.domain.now c.args.terms.now.readings.now c.args.terms.now.ports.now g.files (g.D.Desk.reading c.args.desk.now) c.args.captures c.requires.1.1.1.1.1.1.0
                   (g.D.Desk.writing c.args.desk.now) c.args.outputs.now c.requires.1.1.1.1.1.1.1.0 c.requires.1.1.1.1.1.1.1.1.1.1.0
                   c.in-Ok.gathered c.begin.new.outputs (c.in-Ok.ensures.adds c.args.terms.now.readings.now) (c.in-Ok.ensures.gathers g.G.Gate.opens c.args.terms.now.readings.now),
               (

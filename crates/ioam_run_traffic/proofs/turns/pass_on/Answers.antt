@@ -1,6 +1,5 @@
 use Rattle.std.proofs.Common.{refl, rules, arith}
 use Rattle.ioam_desk.proofs.KeptLaws.{WritesFrom-same}
-use Rattle.ioam_capture_merge.proofs.TakeLaws.{Comes-below}
 use Rattle.ioam_run_traffic.specs.Traffic.{course_with}
 use Rattle.ioam_run_traffic.proofs.RunsLaws.{Coming-passed, Coming-running, Running-fronts}
 use Rattle.ioam_run_traffic.proofs.turns.pass_on.Goals as goal
@@ -22,11 +21,7 @@ take_next-requires-clause-of g c = c.in-Ok.ensures.coming.forwards.of
 pub take_next-requires-clause-below : goal.take_next-requires-clause-below
 take_next-requires-clause-below g c =
     let coming = c.in-Ok.ensures.coming in
-    omega (
-      arith,
-      c.requires.1.1.1.1.1.1.1.0,
-      Comes-below g.D.Desk.tells g.files.lanes coming.taken (g.D.Desk.reading c.make_room.new.desk) c.make_room.new.progress.merge c.args.place coming.are.0 coming.are.1,
-    )
+    omega (arith, c.requires.1.1.1.1.1.1.1.0, coming.are.1.are.inside)
 
 pub returns-in-Err-take_next-clause-stops : goal.returns-in-Err-take_next-clause-stops
 returns-in-Err-take_next-clause-stops g c =
