@@ -14,7 +14,7 @@ abbrev pub most_fraction : ℕ → ℕ → List ℕ
 most_fraction count most = if count == 0 then codes " most - narrowest -\n" else fraction_text most
 
 -- the line of the format, with the fractions that were read by it
-abbrev pub format_row : List ℕ → ℕ → ℕ → List ℕ
+unfoldable pub format_row : List ℕ → ℕ → ℕ → List ℕ
 format_row format count most = codes "format " ++ format ++ codes " fractions " ++ decimal count ++ most_fraction count most
 
 -- a number behind its label
@@ -31,13 +31,13 @@ abbrev pub are_none : ℕ → ℕ → ℕ → ℕ → Bool
 are_none spaces ways hops nodes = spaces == 0 && (ways == 0 && (hops == 0 && nodes == 0))
 
 -- the line of those that found none, if there are some
-abbrev pub beyond_row : ℕ → ℕ → ℕ → ℕ → List ℕ
+unfoldable pub beyond_row : ℕ → ℕ → ℕ → ℕ → List ℕ
 beyond_row spaces ways hops nodes = if are_none spaces ways hops nodes then [] else beyond_text spaces ways hops nodes
 
 -- how many traces there were
-abbrev pub traces_row : ℕ → ℕ → ℕ → List ℕ
+unfoldable pub traces_row : ℕ → ℕ → ℕ → List ℕ
 traces_row traces overflow bad = codes "traces " ++ decimal traces ++ codes " overflow " ++ decimal overflow ++ codes " bad " ++ decimal bad ++ codes "\n"
 
--- how many packets
-abbrev pub packets_row : ℕ → ℕ → ℕ → List ℕ
-packets_row packets traced skipped = codes "packets " ++ decimal packets ++ codes " traced " ++ decimal traced ++ codes " skipped " ++ decimal skipped ++ codes "\n"
+-- how many records there were, and how many of them hold no packet whose header chain is whole
+unfoldable pub packets_row : ℕ → ℕ → List ℕ
+packets_row packets skipped = codes "packets " ++ decimal packets ++ codes " skipped " ++ decimal skipped ++ codes "\n"

@@ -74,5 +74,5 @@ abbrev pub space_lines : Sums → Row SpaceKey Filled → List ℕ
 space_lines sums row = space_row row.key row.tally ++ space_parts sums row.key.0 row.tally.count
 
 -- the lines of all
-abbrev pub spaces_text : Sums → List ℕ
+unfoldable pub spaces_text : Sums → List ℕ
 spaces_text sums = flat_map (space_lines sums) sums.spaces.rows.items

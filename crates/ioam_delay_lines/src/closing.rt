@@ -19,6 +19,7 @@ fn narrowest_of(most: u32) -> &'static str
 }
 
 /// Appends `format FORMAT fractions C most F narrowest FORMAT` and the end of the line.
+#[tactic(auto, unfolding(crate::specs::Closing::format_row))]
 pub fn put_format_row(
     format: &str,
     count: u64,
@@ -58,6 +59,7 @@ fn put_fraction(most: u32, out: &mut Vec<u8>) -> Result<(), NoMemory>
 
 /// Appends `beyond namespaces C ways C hops C nodes C` and the end of the line: how many found no row in the tables,
 /// if there are some.
+#[tactic(auto, unfolding(crate::specs::Closing::beyond_row))]
 pub fn put_beyond_row(
     spaces: u64,
     ways: u64,
@@ -108,6 +110,7 @@ fn put_labelled(label: &[u8], number: u64, out: &mut Vec<u8>) -> Result<(), NoMe
 }
 
 /// Appends `traces C overflow C bad C` and the end of the line.
+#[tactic(auto, unfolding(crate::specs::Closing::traces_row))]
 pub fn put_traces_row(
     traces: u64,
     overflow: u64,
@@ -125,19 +128,13 @@ pub fn put_traces_row(
     append(out, b"\n")
 }
 
-/// Appends `packets C traced C skipped C` and the end of the line.
-pub fn put_packets_row(
-    packets: u64,
-    traced: u64,
-    skipped: u64,
-    out: &mut Vec<u8>,
-) -> Result<(), NoMemory>
-    ensures { OnOk result (out.new.items ≡ out.old.items ++ packets_row packets traced skipped) }
+/// Appends `packets C skipped C` and the end of the line.
+#[tactic(auto, unfolding(crate::specs::Closing::packets_row))]
+pub fn put_packets_row(packets: u64, skipped: u64, out: &mut Vec<u8>) -> Result<(), NoMemory>
+    ensures { OnOk result (out.new.items ≡ out.old.items ++ packets_row packets skipped) }
 {
     append(out, b"packets ")?;
     append_decimal(out, packets)?;
-    append(out, b" traced ")?;
-    append_decimal(out, traced)?;
     append(out, b" skipped ")?;
     append_decimal(out, skipped)?;
     append(out, b"\n")

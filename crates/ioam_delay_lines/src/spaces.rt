@@ -10,6 +10,7 @@ use ioam_delay_tables::Row;
 use std::alloc::Global;
 
 /// Appends the lines of each namespace, and of what is in it: the ways by falling count, the hops and the nodes.
+#[tactic(auto, unfolding(crate::specs::Spaces::spaces_text))]
 pub fn put_spaces(alloc: Global, sums: &Sums, out: &mut Vec<u8>) -> Result<(), NoMemory>
     ensures { OnOk result (out.new.items ≡ out.old.items ++ spaces_text sums.now) }
 {

@@ -28,7 +28,7 @@ courses_append [] ys = refl
 courses_append (x ∷ xs) ys = ap (cons_option x) (courses_append xs ys) ∙ sym (cons_append x (courses_of xs) (courses_of ys))
 
 -- the first of few are few
-light_first : (xs ys : List (Option Course)) → IsLight (xs ++ ys) → IsLight xs
+pub light_first : (xs ys : List (Option Course)) → IsLight (xs ++ ys) → IsLight xs
 light_first xs ys light = record {
   elements = omega (arith, light.elements, ap weight (courses_append xs ys), sum_by-append (λ (course : Course). length course.sights + 1) (courses_of xs) (courses_of ys));
   traces = omega (arith, light.traces, length-append xs ys);

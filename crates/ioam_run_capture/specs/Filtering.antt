@@ -34,10 +34,6 @@ heads = capture_text [] ∷ [] ∷ []
 abbrev pub sums : Filtering → List (List ℕ)
 sums gathered = [] ∷ sums_line gathered.kept gathered.dropped ∷ []
 
--- of no records, with what is added
-abbrev pub empty : List (List ℕ)
-empty = capture_text [] ∷ sums_line 0 0 ∷ []
-
 -- how many records were taken
 abbrev pub taken : Filtering → ℕ
 taken gathered = gathered.kept + gathered.dropped
@@ -89,10 +85,6 @@ Gathers-ends records (out ∷ report ∷ more ∷ texts) gathered gathers = absu
 pub sums-sized : (gathered : Filtering) → length (sums gathered) ≡ 2
 sums-sized gathered = refl
 
--- these are the texts of no records
-pub empty-texts : FilterTexts [] empty
-empty-texts = record { verdicts = []; are = tt; only = no_others; out_is = refl; report_is = refl }
-
 -- and they are two
-pub empty-sized : length empty ≡ 2
-empty-sized = refl
+pub heads-sized : length heads ≡ 2
+heads-sized = refl

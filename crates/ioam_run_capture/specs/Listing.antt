@@ -11,10 +11,6 @@ use Rattle.ioam_run_capture.specs.declared.listing.Listing.{Listing}
 abbrev pub heads : List (List ℕ)
 heads = [] ∷ []
 
--- of no records, with what is added
-abbrev pub empty : List (List ℕ)
-empty = packets_line 0 ∷ []
-
 -- what is added behind the last record
 abbrev pub sums : {L : Type 0} → Listing L → List (List ℕ)
 sums gathered = packets_line gathered.packets ∷ []
@@ -32,8 +28,8 @@ pub IsFresh-none : {L : Type 0} → (gathered : Listing L) → IsFresh gathered 
 IsFresh-none gathered fresh = fresh
 
 -- the text of no records is one
-pub empty-sized : length empty ≡ 1
-empty-sized = refl
+pub heads-sized : length heads ≡ 1
+heads-sized = refl
 
 -- one text stands behind the last record
 pub sums-sized : {L : Type 0} → (gathered : Listing L) → length (sums gathered) ≡ 1
@@ -69,7 +65,3 @@ module _ {L : Type 0} (Tells : List ℕ → List ℕ → Type 0) where
     text_is = ap (λ (count : ℕ). text ++ packets_line count) lists.count;
   }
   Lists-ends taken (text ∷ more ∷ texts) gathered lists = absurd lists
-
-module _ (Tells : List ℕ → List ℕ → Type 0) where
-  pub empty-texts : ListTexts Tells [] empty
-  empty-texts = record { lines = []; are_lines = refl; only = λ others are. are; text_is = refl }

@@ -68,10 +68,6 @@ Saves-ends records (out ∷ []) gathered saves =
     record { out_is = is; fits = saves.fits; reads = saved-reads records (out ++ []) is saves.fits }
 Saves-ends records (out ∷ more ∷ texts) gathered saves = absurd saves
 
--- the head of a capture alone is the text of no records
-pub empty-texts : SaveTexts [] heads
-empty-texts = record { out_is = refl; fits = All-nil IsSendable; reads = saved-reads [] (capture_text []) refl (All-nil IsSendable) }
-
 -- and it is one text
 pub heads-sized : length heads ≡ 1
 heads-sized = refl

@@ -27,7 +27,7 @@ pub struct Filtering {
 
 impl Gather for Filtering {
     ghost use Rattle.ioam_run_capture.specs.FilterText.{FilterTexts};
-    ghost use Rattle.ioam_run_capture.specs.Filtering.{Gathers, heads, sums, taken, empty, IsFresh, IsFresh-none, Gathers-begins, Gathers-ends, empty-texts, empty-sized, sums-sized};
+    ghost use Rattle.ioam_run_capture.specs.Filtering.{Gathers, heads, sums, taken, IsFresh, IsFresh-none, Gathers-begins, Gathers-ends, heads-sized, sums-sized};
 
     ghost width = { 2 };
 
@@ -42,8 +42,6 @@ impl Gather for Filtering {
     ghost sums = { sums };
 
     ghost texts = { λ begun. FilterTexts };
-
-    ghost empty = { empty };
 
     fn begin(&self, outputs: &mut [Output]) -> Result<(), NoMemory> {
         put_head(&mut outputs[OUT].gathered)?;
@@ -85,9 +83,7 @@ impl Gather for Filtering {
 
     ghost ends = { λ begun. Gathers-ends };
 
-    ghost of_none = { λ begun. empty-texts };
-
-    ghost empty_sized = { empty-sized };
+    ghost heads_sized = { heads-sized };
 
     ghost sized = { sums-sized };
 }

@@ -35,7 +35,7 @@ pub fn none_listed<L: PacketText>() -> Listing<L>
 }
 
 impl<L: PacketText> Gather for Listing<L> {
-    ghost use Rattle.ioam_run_capture.specs.Listing.{Lists, heads, sums, listed, empty, IsFresh, IsFresh-none, Lists-begins, Lists-ends, empty-texts, empty-sized, sums-sized};
+    ghost use Rattle.ioam_run_capture.specs.Listing.{Lists, heads, sums, listed, IsFresh, IsFresh-none, Lists-begins, Lists-ends, heads-sized, sums-sized};
     ghost use Rattle.ioam_run_capture.specs.ListText.{ListTexts};
 
     ghost width = { 1 };
@@ -51,8 +51,6 @@ impl<L: PacketText> Gather for Listing<L> {
     ghost sums = { sums };
 
     ghost texts = { λ begun. ListTexts L.tells };
-
-    ghost empty = { empty };
 
     fn begin(&self, _outputs: &mut [Output]) -> Result<(), NoMemory> {
         Ok(())
@@ -83,9 +81,7 @@ impl<L: PacketText> Gather for Listing<L> {
 
     ghost ends = { λ begun. Lists-ends L.tells };
 
-    ghost of_none = { λ begun. empty-texts L.tells };
-
-    ghost empty_sized = { empty-sized };
+    ghost heads_sized = { heads-sized };
 
     ghost sized = { sums-sized };
 }

@@ -13,7 +13,7 @@ pub struct Saving {
 
 impl Gather for Saving {
     ghost use Rattle.ioam_run_capture.specs.SaveText.{SaveTexts};
-    ghost use Rattle.ioam_run_capture.specs.Saving.{Saves, heads, sums, saved, IsFresh, IsFresh-none, Saves-begins, Saves-ends, empty-texts, heads-sized, sums-sized};
+    ghost use Rattle.ioam_run_capture.specs.Saving.{Saves, heads, sums, saved, IsFresh, IsFresh-none, Saves-begins, Saves-ends, heads-sized, sums-sized};
 
     ghost width = { 1 };
 
@@ -28,8 +28,6 @@ impl Gather for Saving {
     ghost sums = { sums };
 
     ghost texts = { λ begun. SaveTexts };
-
-    ghost empty = { heads };
 
     fn begin(&self, outputs: &mut [Output]) -> Result<(), NoMemory> {
         put_ng_head(&mut outputs[0].gathered)?;
@@ -63,9 +61,7 @@ impl Gather for Saving {
 
     ghost ends = { λ begun. Saves-ends };
 
-    ghost of_none = { λ begun. empty-texts };
-
-    ghost empty_sized = { heads-sized };
+    ghost heads_sized = { heads-sized };
 
     ghost sized = { sums-sized };
 }

@@ -52,10 +52,6 @@ heads = capture_text [] ∷ [] ∷ []
 abbrev pub sums : Leaking → List (List ℕ)
 sums gathered = [] ∷ totals_text gathered.counts gathered.flows.counts.entries ∷ []
 
--- of no records, with what is added
-abbrev pub empty : List (List ℕ)
-empty = capture_text [] ∷ totals_text none [] ∷ []
-
 -- how many records were taken
 abbrev pub taken : Leaking → ℕ
 taken gathered = all_of gathered.counts
@@ -107,10 +103,6 @@ Gathers-ends records (out ∷ report ∷ more ∷ texts) gathered gathers = absu
 pub sums-sized : (gathered : Leaking) → length (sums gathered) ≡ 2
 sums-sized gathered = refl
 
--- these are the texts of no records
-pub empty-texts : LeaksTexts [] empty
-empty-texts = record { seen = []; are = tt; only = no_others; out_is = refl; report_is = refl }
-
 -- and they are two
-pub empty-sized : length empty ≡ 2
-empty-sized = refl
+pub heads-sized : length heads ≡ 2
+heads-sized = refl

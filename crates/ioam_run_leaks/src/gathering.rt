@@ -39,7 +39,7 @@ pub struct Leaking {
 
 impl Gather for Leaking {
     ghost use Rattle.ioam_run_leaks.specs.LeaksText.{LeaksTexts};
-    ghost use Rattle.ioam_run_leaks.specs.Gathering.{Gathers, heads, sums, taken, empty, IsFresh, IsFresh-none, Gathers-begins, Gathers-ends, empty-texts, empty-sized, sums-sized};
+    ghost use Rattle.ioam_run_leaks.specs.Gathering.{Gathers, heads, sums, taken, IsFresh, IsFresh-none, Gathers-begins, Gathers-ends, heads-sized, sums-sized};
 
     ghost width = { 2 };
 
@@ -54,8 +54,6 @@ impl Gather for Leaking {
     ghost sums = { sums };
 
     ghost texts = { λ begun. LeaksTexts };
-
-    ghost empty = { empty };
 
     fn begin(&self, outputs: &mut [Output]) -> Result<(), NoMemory> {
         put_head(&mut outputs[OUT].gathered)?;
@@ -95,9 +93,7 @@ impl Gather for Leaking {
 
     ghost ends = { λ begun. Gathers-ends };
 
-    ghost of_none = { λ begun. empty-texts };
-
-    ghost empty_sized = { empty-sized };
+    ghost heads_sized = { heads-sized };
 
     ghost sized = { sums-sized };
 }

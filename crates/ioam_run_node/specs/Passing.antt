@@ -46,10 +46,6 @@ heads = capture_text [] ∷ [] ∷ [] ∷ []
 abbrev pub sums : Passing → List (List ℕ)
 sums gathered = [] ∷ sums_line gathered.sent gathered.dropped ∷ [] ∷ []
 
--- of no records, with what is added
-abbrev pub empty : List (List ℕ)
-empty = capture_text [] ∷ sums_line 0 0 ∷ [] ∷ []
-
 -- how many records were taken
 abbrev pub taken : Passing → ℕ
 taken gathered = gathered.sent + gathered.dropped
@@ -110,19 +106,6 @@ Gathers-ends begun records (out ∷ report ∷ exports ∷ more ∷ texts) gathe
 pub sums-sized : (gathered : Passing) → length (sums gathered) ≡ 3
 sums-sized gathered = refl
 
--- these are the texts of no records
-pub empty-texts : (begun : Passing) → Texts begun [] empty
-empty-texts begun = record {
-  passages = [];
-  are = tt;
-  only = no_others (seat_of begun.post);
-  clean = tt;
-  fits = All-nil IsSendable;
-  out_is = refl;
-  report_is = refl;
-  exports_is = refl;
-}
-
 -- and they are three
-pub empty-sized : length empty ≡ 3
-empty-sized = refl
+pub heads-sized : length heads ≡ 3
+heads-sized = refl

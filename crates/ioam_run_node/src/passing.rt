@@ -28,7 +28,7 @@ pub struct Passing<'a> {
 }
 
 impl Gather for Passing<'_> {
-    ghost use Rattle.ioam_run_node.specs.Passing.{Gathers, Texts, heads, sums, taken, empty, IsFresh, IsFresh-none, Gathers-begins, Gathers-ends, empty-texts, empty-sized, sums-sized};
+    ghost use Rattle.ioam_run_node.specs.Passing.{Gathers, Texts, heads, sums, taken, IsFresh, IsFresh-none, Gathers-begins, Gathers-ends, heads-sized, sums-sized};
 
     ghost width = { 3 };
 
@@ -43,8 +43,6 @@ impl Gather for Passing<'_> {
     ghost sums = { sums };
 
     ghost texts = { Texts };
-
-    ghost empty = { empty };
 
     fn begin(&self, outputs: &mut [Output]) -> Result<(), NoMemory> {
         put_head(&mut outputs[OUT].gathered)?;
@@ -90,9 +88,7 @@ impl Gather for Passing<'_> {
 
     ghost ends = { Gathers-ends };
 
-    ghost of_none = { empty-texts };
-
-    ghost empty_sized = { empty-sized };
+    ghost heads_sized = { heads-sized };
 
     ghost sized = { sums-sized };
 }

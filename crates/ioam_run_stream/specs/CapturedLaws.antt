@@ -9,7 +9,7 @@ use Rattle.ioam_run_stream.specs.Promise.{AreFirst}
 use Rattle.ioam_run_stream.specs.declared.captured.Captured.{Captured}
 use Rattle.ioam_run_stream.specs.declared.captured.End.{End}
 use Rattle.ioam_run_stream.specs.declared.captured.End.TheVariants as end
-use Rattle.ioam_run_stream.specs.FirstLaws.{given_first, first_more, first_of_all, first_none, shown_all, said_nothing, unsaid_sized, nothing_more, none_few}
+use Rattle.ioam_run_stream.specs.FirstLaws.{given_first, first_more, first_of_all, first_none, shown_all, said_nothing, unsaid_sized, nothing_more, more_sized, none_few}
 use Rattle.ioam_stream.specs.Conversion.{LeadsTo, Sound}
 use Rattle.ioam_stream.specs.Stage.{How, Ended, Handed}
 
@@ -22,11 +22,11 @@ are_first most Ended end.Limit taken octets are = are.first
 are_first most Handed why taken octets are = shown_all octets taken are
 
 module _ {G : Type 0} (gathers : G → List Taken → List (List ℕ) → G → Type 0) (count : G → ℕ) (width : ℕ) (fresh : G → Type 0)
-    (Texts : G → List Taken → List (List ℕ) → Type 0) (sums : G → List (List ℕ)) (empty : List (List ℕ))
+    (Texts : G → List Taken → List (List ℕ) → Type 0) (heads : List (List ℕ)) (sums : G → List (List ℕ))
+    (begins : (begun : G) → fresh begun → gathers begun [] heads begun)
     (ends : (begun : G) (taken : List Taken) (so_far : List (List ℕ)) (gathered : G) → gathers begun taken so_far gathered
     → Texts begun taken (said_more so_far (sums gathered)))
-    (sized : (gathered : G) → length (sums gathered) ≡ width)
-    (of_none : (begun : G) → Texts begun [] empty) (empty_sized : length empty ≡ width) where
+    (heads_sized : length heads ≡ width) (sized : (gathered : G) → length (sums gathered) ≡ width) where
   -- what was gathered leads to the texts of some first records
   pub leads : (begun : Captured G) (taken : List Taken) (octets : List ℕ) (so_far : List (List ℕ)) (now : Captured G) → AreFirst taken octets
       → HasGathered gathers count width fresh Texts begun taken so_far now → LeadsTo (does gathers count width fresh Texts) begun octets so_far
@@ -64,13 +64,13 @@ module _ {G : Type 0} (gathers : G → List Taken → List (List ℕ) → G → 
       texts_are = firsts.texts_are;
     };
     none = λ begun octets fresh. (
-      empty,
-      empty_sized,
+      said_more heads (sums begun.gathered),
+      more_sized width heads (sums begun.gathered) heads_sized (sized begun.gathered),
       record {
         taken = [];
         are = first_none octets;
         few = none_few begun.limit;
-        texts_are = of_none begun.gathered;
+        texts_are = ends begun.gathered [] heads begun.gathered (begins begun.gathered fresh.gathered);
       },
     );
   }

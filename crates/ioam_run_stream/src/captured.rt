@@ -148,5 +148,5 @@ impl<G: Gather> Converter for Captured<G> {
         Ok(Tail::End)
     }
 
-    ghost sound = { sound G.gathers G.count G.width G.fresh G.texts G.sums G.empty G.ends G.sized G.of_none G.empty_sized };
+    ghost sound = { sound G.gathers G.count G.width G.fresh G.texts G.heads G.sums G.begins G.ends G.heads_sized G.sized };
 }

@@ -32,9 +32,6 @@ pub trait Gather: Drop {
     // the texts of these records, with what is added behind the last
     ghost texts: { Self → List Taken → List (List ℕ) → Type 0 };
 
-    // the texts of no records, with what is added behind the last
-    ghost empty: { List (List ℕ) };
-
     /// Begins the texts.
     fn begin(&self, outputs: &mut [Output]) -> Result<(), NoMemory>
         requires width { length outputs.old ≡ width }
@@ -80,11 +77,8 @@ pub trait Gather: Drop {
     ghost ends: { (begun : Self) (taken : List Taken) (so_far : List (List ℕ)) (gathered : Self)
         → gathers begun taken so_far gathered → texts begun taken (said_more so_far (sums gathered)) };
 
-    // there are texts of no records
-    ghost of_none: { (begun : Self) → texts begun [] empty };
+    // there is one for each output, and something is added to each
+    ghost heads_sized: { length heads ≡ width };
 
-    ghost empty_sized: { length empty ≡ width };
-
-    // something is added to each
     ghost sized: { (gathered : Self) → length (sums gathered) ≡ width };
 }

@@ -1,0 +1,62 @@
+-- What is counted, with one record more.
+use Rattle.std.proofs.Common.{◌≡◌, ℕ, ◌+◌, ◌<◌, ◌^◌, List, [], ◌∷◌, ◌++◌, Option, refl, sym, ◌∙◌, ap, subst, append-nil, length-append, arith}
+use Rattle.std.specs.Prelude.{Bool, None, Some, cond, min}
+use mir.Val.{bool_byte}
+use Rattle.std.specs.List.{count_by}
+use Rattle.std.proofs.lemmas.List.Sums.{count_by-le-length, sum_by-append}
+use Rattle.ioam_delay_counts.specs.Courses.{Course}
+use Rattle.ioam_delay_packets.specs.Shown.{Grows, IsLight}
+use Rattle.ioam_delay_packets.proofs.ShownLaws.{light_first}
+use Rattle.ioam_delay_traces.specs.Totals.{AreTotals}
+use Rattle.ioam_desk_outputs.specs.Told.{said_more}
+use Rattle.ioam_pcap.specs.Entries.{Taken}
+use Rattle.ioam_run_delays.specs.DelaysText.{is_skipped, traces_in, traces_of}
+use Rattle.ioam_run_delays.specs.Format.{units_of}
+use Rattle.ioam_run_delays.specs.Gathering.{Counts, Gathers}
+use Rattle.ioam_run_delays.specs.Observation.{Observation, Shows, ShowAll}
+use Rattle.ioam_run_delays.specs.declared.gathering.Delaying.{Delaying}
+use Rattle.ioam_run_delays.proofs.ObservationLaws.{ShowAll-push, ShowAll-unique}
+use Rattle.ioam_topo.specs.declared.format.Format.{Format}
+
+append_assoc-sym : (xs ys zs : List (Option Course)) → xs ++ (ys ++ zs) ≡ (xs ++ ys) ++ zs
+append_assoc-sym [] ys zs = refl
+append_assoc-sym (x ∷ xs) ys zs = ap (λ (rest : List (Option Course)). x ∷ rest) (append_assoc-sym xs ys zs)
+
+traces_push : (seen : List Observation) (o : Observation) → traces_in (seen ++ o ∷ []) ≡ traces_in seen ++ traces_of o
+traces_push [] o = append-nil (traces_of o)
+traces_push (p ∷ seen) o = ap (λ (rest : List (Option Course)). traces_of p ++ rest) (traces_push seen o) ∙ append_assoc-sym (traces_of p) (traces_in seen) (traces_of o)
+
+module _ (begun old new : Delaying) (t : Taken) (o : Observation) (shows : Shows (units_of old.format) t o)
+    (same : new.format ≡ old.format) (packets : new.packets ≡ old.packets + 1) (few : old.packets < 2 ^ 32)
+    (skipped : old.skipped < 2 ^ 32 → new.skipped ≡ old.skipped + count_by is_skipped (o ∷ [])) (grows : Grows (traces_of o) old.totals new.totals) where
+  counts_push : (ts : List Taken) → Counts begun ts old → Counts begun (ts ++ t ∷ []) new
+  counts_push ts counts =
+      let seen = counts.seen in
+      let units = units_of begun.format in
+      let shows_so : Shows units t o = subst (λ (format : Format). Shows (units_of format) t o) counts.same shows in
+      let are : ShowAll units (ts ++ t ∷ []) (seen ++ o ∷ []) = ShowAll-push units ts seen t o counts.are shows_so in
+      let below : old.skipped < 2 ^ 32 = omega (arith, few, counts.packets_is, counts.skipped_is, count_by-le-length is_skipped seen) in
+      record {
+        same = same ∙ counts.same;
+        seen = seen ++ o ∷ [];
+        are = are;
+        only = λ others have. ShowAll-unique units (ts ++ t ∷ []) others (seen ++ o ∷ []) have are;
+        packets_is = omega (arith, packets, counts.packets_is, length-append seen (o ∷ []));
+        skipped_is = skipped below ∙ ap (λ (n : ℕ). n + count_by is_skipped (o ∷ [])) counts.skipped_is
+            ∙ sym (sum_by-append (λ (p : Observation). cond (is_skipped p) 1 0) seen (o ∷ []));
+        totals_are = λ light.
+            let light_so : IsLight (traces_in seen ++ traces_of o) = subst IsLight (traces_push seen o) light in
+            subst (λ (all : List (Option Course)). AreTotals all new.totals) (sym (traces_push seen o))
+            (grows (traces_in seen) light_so (counts.totals_are (light_first (traces_in seen) (traces_of o) light_so)));
+      }
+
+  pub Gathers-push : (ts : List Taken) (texts : List (List ℕ)) → Gathers begun ts texts old → Gathers begun (ts ++ t ∷ []) (said_more texts ([] ∷ [])) new
+  Gathers-push ts [] gathers = absurd gathers
+  Gathers-push ts (text ∷ []) gathers = (append-nil text ∙ gathers.0, counts_push ts gathers.1)
+  Gathers-push ts (text ∷ more ∷ texts) gathers = absurd gathers
+
+-- one that is skipped is counted
+pub skipped_more : (old r new : ℕ) (b : Bool) (o : Observation) → b ≡ is_skipped o → r ≡ bool_byte b → new ≡ min (old + r) 18446744073709551615 → old < 2 ^ 32
+    → new ≡ old + count_by is_skipped (o ∷ [])
+skipped_more old r new b None is byte more below = omega (arith, more, below, byte ∙ ap bool_byte is)
+skipped_more old r new b (Some seen) is byte more below = omega (arith, more, below, byte ∙ ap bool_byte is)
