@@ -23,7 +23,7 @@ cons_append : {Y : Type 0} (o : Option Y) (xs ys : List Y) → cons_option o xs 
 cons_append None xs ys = refl
 cons_append (Some x) xs ys = refl
 
-courses_append : (xs ys : List (Option Course)) → courses_of (xs ++ ys) ≡ courses_of xs ++ courses_of ys
+pub courses_append : (xs ys : List (Option Course)) → courses_of (xs ++ ys) ≡ courses_of xs ++ courses_of ys
 courses_append [] ys = refl
 courses_append (x ∷ xs) ys = ap (cons_option x) (courses_append xs ys) ∙ sym (cons_append x (courses_of xs) (courses_of ys))
 

@@ -4,7 +4,6 @@ use Rattle.std.specs.List.{count_by, flat_map}
 use Rattle.ioam_delay_counts.specs.Courses.{Course}
 use Rattle.ioam_delay_lines.specs.Closing.{beyond_row, format_row, packets_row, traces_row}
 use Rattle.ioam_delay_lines.specs.Spaces.{spaces_text}
-use Rattle.ioam_delay_packets.specs.Shown.{IsLight}
 use Rattle.ioam_delay_traces.specs.Totals.{AreTotals}
 use Rattle.ioam_delay_traces.specs.declared.totals.Totals.{Totals}
 use Rattle.ioam_pcap.specs.Entries.{Taken}
@@ -45,7 +44,7 @@ pub record Reported (format : Format) (taken : List Taken) (text : List ℕ) : T
   pub only : (others : List Observation) → ShowAll (units_of format) taken others → others ≡ seen
   -- what is counted of their traces
   pub totals : Totals
-  pub totals_are : IsLight (traces_in seen) → AreTotals (traces_in seen) totals
+  pub totals_are : AreTotals (traces_in seen) totals
   pub text_is : text ≡ report_text format (length seen) (count_by is_skipped seen) totals
 
 -- REPORT

@@ -1,10 +1,10 @@
 -- What is gathered for `delays`.
-use Rattle.std.specs.Prelude.{◌≡◌, ℕ, List, [], ◌∷◌, ◌++◌, length, refl}
+use Rattle.std.specs.Prelude.{◌≡◌, ℕ, ◌*◌, ◌^◌, ◌≤◌, List, [], ◌∷◌, ◌++◌, length, refl}
 use Rattle.std.specs.List.{count_by}
-use Rattle.std.proofs.Common.{◌∙◌, ap}
+use Rattle.std.proofs.Common.{◌∙◌, ap, arith}
 use Rattle.ioam_desk_outputs.specs.Told.{said_more}
-use Rattle.ioam_delay_packets.specs.Shown.{IsLight}
-use Rattle.ioam_delay_traces.specs.Totals.{AreTotals}
+use Rattle.ioam_delay_counts.specs.Counted.{weight}
+use Rattle.ioam_delay_traces.specs.Totals.{AreTotals, courses_of}
 use Rattle.ioam_pcap.specs.Entries.{Taken}
 use Rattle.ioam_run_delays.specs.DelaysText.{DelaysTexts, is_skipped, report_text, traces_in}
 use Rattle.ioam_run_delays.specs.Format.{units_of}
@@ -20,7 +20,10 @@ pub record Counts (begun : Delaying) (taken : List Taken) (gathered : Delaying) 
   pub only : (others : List Observation) → ShowAll (units_of begun.format) taken others → others ≡ seen
   pub packets_is : gathered.packets ≡ length seen
   pub skipped_is : gathered.skipped ≡ count_by is_skipped seen
-  pub totals_are : IsLight (traces_in seen) → AreTotals (traces_in seen) gathered.totals
+  pub totals_are : AreTotals (traces_in seen) gathered.totals
+  -- the traces of a record, and their elements, are no more than its octets
+  pub weight_is : weight (courses_of (traces_in seen)) ≤ length seen * 2 ^ 18
+  pub many : length (traces_in seen) ≤ length seen * 2 ^ 18
 
 -- REPORT so far is empty
 abbrev pub Gathers : Delaying → List Taken → List (List ℕ) → Delaying → Type 0
@@ -61,7 +64,9 @@ Gathers-begins begun fresh = (
     only = no_others (units_of begun.format);
     packets_is = fresh.0;
     skipped_is = fresh.1;
-    totals_are = λ light. fresh.2;
+    totals_are = fresh.2;
+    weight_is = omega arith;
+    many = omega arith;
   },
 )
 

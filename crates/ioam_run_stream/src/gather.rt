@@ -55,6 +55,7 @@ pub trait Gather: Drop {
         requires short { length captured.now.octets.now ≤ most }
         requires time { captured.now.time < 2 ^ 62 }
         requires few { count self.old < 2 ^ 32 }
+        requires bound { count self.old < 2 ^ 24 }
         requires width { length outputs.old ≡ width }
         requires waiting { GathersFew outputs.old }
         ensures counted { OnOk result (count self.new ≡ count self.old + 1) }
