@@ -1,6 +1,6 @@
 -- What two parts join to.
-use Rattle.std.proofs.Common.{◌≡◌, ℕ, ◌<◌, Bool, List, [], length, ◌++◌, append-nil, refl, sym, ap, ◌∙◌, subst, inl, inr, arith, Option, None, Some, Ok, Err}
-use Rattle.std.specs.Prelude.{Result}
+use Rattle.std.proofs.Common.{◌≡◌, ℕ, ◌<◌, Bool, List, [], length, ◌++◌, append-nil, append_assoc, refl, sym, ap, ◌∙◌, subst, inl, inr, arith, Option, None, Some, Ok, Err}
+use Rattle.std.specs.Prelude.{Result, IfOk}
 use Rattle.ioam_desk.specs.Desk.{Writing}
 use Rattle.ioam_desk.specs.declared.fault.DeskFault.{DeskFault}
 use Rattle.ioam_desk.specs.declared.fault.DeskFault.TheVariants.{Failed, NoMemory}
@@ -19,8 +19,10 @@ use Rattle.ioam_part_merge.specs.Walk.{Walking, Comes, NextIs, left, pairs_octet
 use Rattle.ioam_part_merge.proofs.WalkLaws.{count_is, text_is_part}
 use Rattle.ioam_run_answer.specs.declared.outcome.Outcome.{Outcome}
 use Rattle.ioam_run_answer.specs.declared.outcome.Outcome.TheVariants as outcome
-use Rattle.ioam_run_part.specs.Joined.{Counts, CountsBoth, IsPlan, RefusesJoined, SaysJoined, WritesJoined, head_if, left_of}
-use Rattle.ioam_run_part.specs.Telling.{PutsLast, PutsPart}
+use Rattle.ioam_run_part.specs.Joined.{Counts, CountsBoth, IsPlan, PutsAll, PutsRecords, PutsSome, RefusesJoined, SaysJoined, WritesJoined, head_if, left_of}
+use Rattle.ioam_run_part.specs.Telling.{Puts, PutsPart}
+use Rattle.ioam_stream.specs.declared.conversion.Tail.{Tail}
+use Rattle.ioam_stream.specs.declared.conversion.Tail.TheVariants as tail
 use Rattle.ioam_run_part.specs.declared.joined.Joined.{Joined}
 use Rattle.ioam_run_part.specs.MergePromise.{IsMerged}
 use Rattle.ioam_run_part.specs.Records.{IsPartOfAll, KeepFew}
@@ -100,28 +102,57 @@ head_put count walk before after is = record {
   rest = λ text says. (pairs_octets says.pairs, record { pairs = says.pairs; comes = says.comes; is = refl }, says.is);
 }
 
+-- nothing yet
+pub none_yet : (walk : Walking) (out : List ℕ) → PutsSome walk walk out out
+none_yet walk out = record { added = []; is = sym (append-nil out); rest = λ ps comes. (ps, comes, refl) }
+
 -- the next record
-pub record_put : (old new : Walking) (octets before after : List ℕ) → ((ps : List (Key × Entry)) → Comes old ps → NextIs ps octets new) → left new < left old → after ≡ before ++ octets
-    → PutsPart Says Left (joined None old) (joined None new) before after
-record_put old new octets before after next fewer is = record {
-  fewer = fewer;
-  added = octets;
-  is = is;
-  rest = λ text says.
-      let comes = next says.pairs says.comes in (
-        pairs_octets comes.rest,
-        record { pairs = comes.rest; comes = comes.comes; is = refl },
-        says.is ∙ ap pairs_octets comes.are ∙ ap (λ (o : List ℕ). o ++ pairs_octets comes.rest) (sym comes.is),
+pub record_put : (old mid new : Walking) (octets before between after : List ℕ) → PutsSome old mid before between
+    → ((ps : List (Key × Entry)) → Comes mid ps → NextIs ps octets new) → after ≡ between ++ octets → PutsSome old new before after
+record_put old mid new octets before between after puts next is = record {
+  added = puts.added ++ octets;
+  is = is ∙ ap (λ (o : List ℕ). o ++ octets) puts.is ∙ append_assoc before puts.added octets;
+  rest = λ ps comes.
+      let now = puts.rest ps comes in
+      let one = next now.0 now.1 in (
+        one.rest,
+        one.comes,
+        now.2 ∙ ap (λ (o : List ℕ). puts.added ++ o) (ap pairs_octets one.are ∙ ap (λ (o : List ℕ). o ++ pairs_octets one.rest) (sym one.is))
+            ∙ sym (append_assoc puts.added octets (pairs_octets one.rest)),
       );
 }
 
 -- none is left
-pub none_put : (old new : Walking) (out : List ℕ) → ((ps : List (Key × Entry)) → Comes old ps → ps ≡ []) → PutsLast Says Left (joined None old) (joined None new) out out
-none_put old new out none = record {
-  added = [];
-  is = sym (append-nil out);
-  all = λ text says. says.is ∙ ap pairs_octets (none says.pairs says.comes);
+pub none_left : (old mid new : Walking) (before between : List ℕ) → PutsSome old mid before between → ((ps : List (Key × Entry)) → Comes mid ps → ps ≡ [])
+    → PutsAll old new before between
+none_left old mid new before between puts none = record {
+  added = puts.added;
+  is = puts.is;
+  all = λ ps comes.
+      let now = puts.rest ps comes in
+      now.2 ∙ ap (λ (o : List ℕ). puts.added ++ o) (ap pairs_octets (none now.0 now.1)) ∙ append-nil puts.added;
 }
+
+-- some of the records were said, or the last of them
+pub records_put : (old new : Walking) (before after : List ℕ) (more : Tail) → PutsRecords old new before after more → Puts Says Left (joined None old) (joined None new) before after more
+records_put old new before after tail.Rest puts = record {
+  fewer = puts.0;
+  added = puts.1.added;
+  is = puts.1.is;
+  rest = λ text says.
+      let now = puts.1.rest says.pairs says.comes in
+      (pairs_octets now.0, record { pairs = now.0; comes = now.1; is = refl }, says.is ∙ now.2);
+}
+records_put old new before after tail.End puts = record {
+  added = puts.added;
+  is = puts.is;
+  all = λ text says. says.is ∙ puts.all says.pairs says.comes;
+}
+
+pub puts_so : {E : Type 0} (old new : Walking) (before after : List ℕ) (result : Result Tail E) → IfOk result (PutsRecords old new before after)
+    → IfOk result (Puts Says Left (joined None old) (joined None new) before after)
+puts_so old new before after (Ok more) puts = records_put old new before after more puts
+puts_so old new before after (Err e) puts = tt
 
 -- nothing was opened
 pub unwritten : (tells : Bool) (name : List ℕ) (xs ys : List Record) (old : Writing) (answer : Outcome) → RefusesJoined xs ys answer → WritesJoined tells name xs ys old old answer

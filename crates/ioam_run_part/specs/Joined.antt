@@ -12,6 +12,8 @@ use Rattle.ioam_run_answer.specs.declared.outcome.Outcome.{Outcome}
 use Rattle.ioam_run_answer.specs.declared.outcome.Outcome.TheVariants as outcome
 use Rattle.ioam_run_part.specs.Records.{IsPartOfAll, KeepFew, KeepMany}
 use Rattle.ioam_run_part.specs.Stored.{HoldsFrontOf}
+use Rattle.ioam_stream.specs.declared.conversion.Tail.{Tail}
+use Rattle.ioam_stream.specs.declared.conversion.Tail.TheVariants as tail
 
 -- how many pairs these are, or none where they are more than a part may have
 abbrev pub Counts : List (Key × Entry) → Option ℕ → Type 0
@@ -33,6 +35,24 @@ pub record SaysJoined (count : Option ℕ) (walk : Walking) (text : List ℕ) : 
   pub pairs : List (Key × Entry)
   pub comes : Comes walk pairs
   pub is : text ≡ head_if count ++ pairs_octets pairs
+
+module _ (old new : Walking) (before after : List ℕ) where
+  -- some of the records that come of a walk were appended
+  pub record PutsSome : Type 0 where
+    pub added : List ℕ
+    pub is : after ≡ before ++ added
+    pub rest : (ps : List (Key × Entry)) → Comes old ps → (more : List (Key × Entry)) × Comes new more × (pairs_octets ps ≡ added ++ pairs_octets more)
+
+  -- and none is left
+  pub record PutsAll : Type 0 where
+    pub added : List ℕ
+    pub is : after ≡ before ++ added
+    pub all : (ps : List (Key × Entry)) → Comes old ps → pairs_octets ps ≡ added
+
+  -- one at least, or all
+  abbrev pub PutsRecords : Tail → Type 0
+  PutsRecords tail.Rest = (left new < left old) × PutsSome
+  PutsRecords tail.End = PutsAll
 
 -- of how many parts this is at most
 abbrev pub left_of : Option ℕ → Walking → ℕ

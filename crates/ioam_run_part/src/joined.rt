@@ -6,14 +6,14 @@ ghost use Rattle.ioam_run_answer.specs.Record.{Record};
 ghost use Rattle.ioam_collect.specs.Keyed.{keyed};
 ghost use Rattle.ioam_collect.specs.Unite.{united};
 ghost use Rattle.ioam_part.specs.Part.{IsPart};
-ghost use Rattle.ioam_run_part.specs.Joined.{Counts, IsPlan, RefusesJoined, SaysJoined, WritesJoined, left_of};
+ghost use Rattle.ioam_run_part.specs.Joined.{Counts, IsPlan, PutsRecords, RefusesJoined, SaysJoined, WritesJoined, left_of};
 
 use crate::telling::{Source, stored_outcome, tell};
 use ioam_base::memory::NoMemory;
 use ioam_base::name::Name;
 use ioam_base::text::append;
 use ioam_collect::MOST_HELD;
-use ioam_desk::Desk;
+use ioam_desk::{Desk, PIECE};
 use ioam_part_merge::{PartOctets, Walk, count_both, head_of};
 use ioam_run_answer::Outcome;
 use ioam_stream::Tail;
@@ -24,6 +24,21 @@ use std::alloc::Global;
 struct Joined<'a> {
     count: Option<u32>,
     walk: Walk<'a>,
+}
+
+// Appends the records that come next of a walk, until a full piece waits or none is left.
+fn put_records(walk: &mut Walk<'_>, out: &mut Vec<u8>) -> Result<Tail, NoMemory>
+    ensures { IfOk result (PutsRecords walk.old walk.new out.old.items out.new.items) }
+{
+    'records: loop {
+        match walk.next() {
+            Some(octets) => append(out, octets)?,
+            None => return Ok(Tail::End),
+        }
+        if out.len() >= PIECE {
+            return Ok(Tail::Rest);
+        }
+    }
 }
 
 impl<'a> Source for Joined<'a> {
@@ -38,13 +53,7 @@ impl<'a> Source for Joined<'a> {
                 append(out, head_of(count).octets())?;
                 Ok(Tail::Rest)
             }
-            None => match self.walk.next() {
-                Some(octets) => {
-                    append(out, octets)?;
-                    Ok(Tail::Rest)
-                }
-                None => Ok(Tail::End),
-            },
+            None => put_records(&mut self.walk, out),
         }
     }
 }
