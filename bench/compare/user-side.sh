@@ -335,12 +335,15 @@ for way in '>&-' '>/dev/full' '>&- <&-' '>&- 2>&- <&-' '| head -c 0'; do
     judge "$(cat got)" 0 "filter $real out report $way"
     cat out report >stdout && cat out-1 report-1 >wanted && judge 0 0 '  in out and report'
 done
-# What ./ioam-install writes into a folder, and where it has none.
-printf '%s\n' "$work/usr/bin/ioam" "$work/usr/share/man/man1/ioam.1" "$work/usr/share/bash-completion/completions/ioam" >wanted
+# What ./ioam-install writes into a folder and takes away again, and what it says without one.
 "$top/ioam-install" "$work/usr" >stdout 2>stderr
-judge $? 0 ioam-install usr
+got=$? && find "$work/usr" -type f | LC_ALL=C sort >wanted && LC_ALL=C sort -o stdout stdout && judge $got 0 ioam-install usr
 printf 'usage\n' >wanted && usr/bin/ioam >stdout 2>stderr
 judge $? 1 usr/bin/ioam
+find "$work/usr" -type f | LC_ALL=C sort >wanted
+"$top/ioam-install" --uninstall "$work/usr" >stdout 2>stderr
+got=$? && LC_ALL=C sort -o stdout stdout && judge $got 0 ioam-install --uninstall usr
+: >wanted && find usr -type f >stdout && judge 0 0 '  leaves nothing'
 : >wanted && "$top/ioam-install" >stdout 2>said
 got=$? && : >stderr && judge $got 125 ioam-install
 

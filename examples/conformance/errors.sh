@@ -11,9 +11,8 @@ build 1280 || cannot "the network namespaces couldn't be set up"
 ip -n "$router" ioam namespace add 0 2>/dev/null || true
 capture "$sender" "$folder/answers.pcap" -Q in 'icmp6 and ip6[40] < 128'
 ip netns exec "$sender" python3 "$here/errors.py" end "$(mac "$router" in)" || cannot "the packets couldn't be sent"
-captured
+captured "$folder/answers.pcap"
 echo "Linux $(uname -r)"
-ioam=${IOAM:-$here/../../ioam}
 "$ioam" leaks "$folder/answers.pcap" "$folder/leaking.pcap" "$folder/report.txt" || exit 1
 cat "$folder/report.txt"
 for number in 1 2 3; do grep -q "^$number quotes " "$folder/report.txt" || exit 1; done

@@ -3,10 +3,13 @@
 #     judge.sh BEFORE AFTER
 # BEFORE is a capture of what came to the router (suite.pcap itself will do), AFTER of what it sent on; packets of other addresses
 # than the suite's don't count. In the environment DOMAIN names another domain.toml, SUITE another folder of suite.pcap and
-# suite.md, IOAM another program. Ends with status 0 where no answer is wrong, 1 where one is, 2 where that can't be said.
+# suite.md, IOAM another program than the repository's (or, if it has none, that of PATH). Ends with status 0 if no answer is
+# wrong, 1 if one is, 2 if that can't be said.
 set -u
 here=$(cd "$(dirname "$0")" && pwd) || exit 2
-program=${IOAM:-$here/../../ioam} domain=${DOMAIN:-$here/domain.toml} suite=${SUITE:-$here}
+program=${IOAM:-$here/../../ioam}
+[ -n "${IOAM:-}" ] || [ -f "$program" ] || program=ioam
+domain=${DOMAIN:-$here/domain.toml} suite=${SUITE:-$here}
 cannot() { echo "judge.sh: $1" >&2; exit 2; }
 [ $# = 2 ] || { echo "judge.sh BEFORE AFTER" >&2; exit 2; }
 [ ! -d "$program" ] && command -v "$program" >/dev/null || cannot "there is no program $program"

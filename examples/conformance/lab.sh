@@ -2,6 +2,9 @@
 # root, iproute2, tcpdump, python3 and a kernel from 5.15 on that was built with IOAM; without them it ends with 77. What it
 # makes is taken down at the end.
 here=$(cd "$(dirname "$0")" && pwd) || exit 2
+# the program: that of the environment variable IOAM, of the repository, or of PATH
+ioam=${IOAM:-$here/../../ioam}
+[ -n "${IOAM:-}" ] || [ -f "$ioam" ] || ioam=ioam
 cannot() { echo "$(basename "$0"): $1" >&2; exit 77; }
 [ "$(id -u)" = 0 ] || cannot "needs root"
 for tool in ip tcpdump python3 sysctl; do command -v "$tool" >/dev/null || cannot "needs $tool"; done
@@ -56,9 +59,14 @@ capture() {
     cannot "tcpdump doesn't start: $(cat "$work/said")"
 }
 
-# Ends the captures once what was sent has come through.
+# Ends the captures once what was sent has come through: when nothing was added to any of these files for a second.
 captured() {
-    sleep 1
+    local size=none before
+    for _ in $(seq 30); do
+        sleep 1
+        before=$size size=$(wc -c "$@")
+        [ "$size" != "$before" ] || break
+    done
     kill -INT "${captures[@]}"
     wait "${captures[@]}"
     captures=()

@@ -16,7 +16,7 @@ build 1500 && namespaces || cannot "the network namespaces couldn't be set up"
 capture "$sender" "$work/before.pcap" --time-stamp-precision=nano ip6
 capture "$receiver" "$work/after.pcap" --time-stamp-precision=nano ip6
 ip netns exec "$sender" python3 "$here/send.py" end "$(mac "$router" in)" "$here/suite.pcap" || cannot "the packets couldn't be sent"
-captured
+captured "$work/before.pcap" "$work/after.pcap"
 if [ "$folder" != "$work" ]; then cp "$work/before.pcap" "$work/after.pcap" "$folder"; fi
 echo "Linux $(uname -r), namespaces ${NAMESPACES:-0 7 123}"
-"$here/judge.sh" "$folder/before.pcap" "$folder/after.pcap"
+IOAM=$ioam "$here/judge.sh" "$folder/before.pcap" "$folder/after.pcap"
