@@ -36,7 +36,9 @@ counted() {
 # Every command and its peer, in this folder.
 count_all() {
     counted walk ../walk in.pcap out
-    counted filter "$ioam" filter in.pcap out out.report
+    counted filter "$ioam" filter in.pcap clean.pcap clean.report
+    counted filter-clean "$ioam" filter clean.pcap out out.report
+    counted leaks-clean "$ioam" leaks clean.pcap out out.report
     counted filter-ng "$ioam" filter in.pcapng out out.report
     counted leaks "$ioam" leaks in.pcap out out.report
     counted paths "$ioam" paths in.pcap out
@@ -82,12 +84,16 @@ row() {
     [ $# = 4 ] || by_hand=$(awk -v n="$(grown "$2")" -v p="$(grown "$5")" -v u="$4" -v by="$6" 'BEGIN { printf "%s | %d | %.2f", by, p / u, n / p }')
     echo "| $1 | $(($(grown "$2") / $4)) | $3 | $by_hand |"
 }
+# clean FOLDER: how many packets have nothing that `filter` drops.
+clean() { sed -n 's/^packets .* kept \([0-9]*\) .*/\1/p' "$1/clean.report"; }
+more_clean=$(($(clean large) - $(clean small)))
 more=$((packets - packets / 10)) more_records=$((records - records / 10))
 echo '| command | instructions | of | peer | its instructions | times that |'
 echo '|---|---|---|---|---|---|'
 row '`filter`' filter 'a packet' $more walk walk.c
 row '`filter` of pcapng' filter-ng 'a packet' $more filter '`filter`'
 row '`leaks`' leaks 'a packet' $more filter '`filter`'
+row '`leaks` of clean packets' leaks-clean 'a packet' $more_clean filter-clean '`filter`'
 row '`paths`' paths 'a packet' $more walk walk.c
 row '`show`' show 'a packet' $more walk walk.c
 row '`save`' save 'a packet' $more walk walk.c
