@@ -9,7 +9,7 @@ set -eu
 . "$(dirname "${BASH_SOURCE[0]}")/timing.sh"
 packets=${1:-20000} records=${2:-200000}
 begin gcc valgrind
-build walk audit measured collect messages merge_parts
+build walk texts audit measured collect messages merge_parts
 gcc -O2 -DNODES=61 -DTRACE=0x800000 -DCAPACITY=61 -DDIRECT=0 -DWORDS=-1 -o long "$here/long.c"
 one=$top/examples/one-node
 
@@ -41,8 +41,12 @@ count_all() {
     counted leaks-clean "$ioam" leaks clean.pcap out out.report
     counted filter-ng "$ioam" filter in.pcapng out out.report
     counted leaks "$ioam" leaks in.pcap out out.report
+    counted paths.c ../texts paths in.pcap by-hand
     counted paths "$ioam" paths in.pcap out
+    cmp by-hand out
+    counted show.c ../texts show in.pcap by-hand
     counted show "$ioam" show in.pcap out
+    cmp by-hand out
     counted save "$ioam" save in.pcap out
     counted node "$ioam" node "$one/domain.toml" "$one/readings" three two-three in.pcap out out.report out.exports
     counted audit.c ../audit 3 32 in.pcap after.pcap out 7 123
@@ -94,8 +98,8 @@ row '`filter`' filter 'a packet' $more walk walk.c
 row '`filter` of pcapng' filter-ng 'a packet' $more filter '`filter`'
 row '`leaks`' leaks 'a packet' $more filter '`filter`'
 row '`leaks` of clean packets' leaks-clean 'a packet' $more_clean filter-clean '`filter`'
-row '`paths`' paths 'a packet' $more walk walk.c
-row '`show`' show 'a packet' $more walk walk.c
+row '`paths`' paths 'a packet' $more paths.c texts.c
+row '`show`' show 'a packet' $more show.c texts.c
 row '`save`' save 'a packet' $more walk walk.c
 row '`node`' node 'a packet' $more walk walk.c
 row '`audit`' audit 'a pair of packets' $more audit.c audit.c
