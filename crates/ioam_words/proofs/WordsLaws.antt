@@ -6,9 +6,12 @@ use Rattle.std.proofs.lemmas.Fmt.{decimal_injective}
 use Rattle.std.proofs.lemmas.Option.{none-some}
 use Rattle.ioam_base.proofs.DecimalLaws.{decimal_iff}
 use Rattle.ioam_desk_outputs.specs.Names.{name_at}
+use Rattle.ioam_topo.specs.declared.format.Format.{Format}
+use Rattle.ioam_topo.specs.declared.format.Format.TheVariants.{Ptp, Ntp, Posix}
+use Rattle.ioam_words.specs.Formats.{format_name}
 use Rattle.ioam_words.specs.Words.{IsCount, IsForm, IsSeed, IsWorkers}
 use Rattle.ioam_words.specs.declared.command.Command.{Command}
-use Rattle.ioam_words.specs.declared.command.Command.TheVariants.{Filter, Leaks, Paths, Show, Save, Node, Audit, Run, Bulk, Collect, Ipfix, Records, Part, Merge, Parts}
+use Rattle.ioam_words.specs.declared.command.Command.TheVariants.{Filter, Leaks, Paths, Delays, Show, Save, Node, Audit, Run, Bulk, Collect, Ipfix, Records, Part, Merge, Parts}
 
 -- the greatest seed
 pub greatest : codes "18446744073709551615" ≡ decimal 18446744073709551615
@@ -39,6 +42,7 @@ abbrev named : Command → List ℕ
 named Filter = codes "filter"
 named Leaks = codes "leaks"
 named Paths = codes "paths"
+named (Delays format) = codes "delays"
 named Show = codes "show"
 named Save = codes "save"
 named Node = codes "node"
@@ -56,6 +60,7 @@ is_named : (command : Command) (words : List (List ℕ)) → IsForm command word
 is_named Filter words form = form.1
 is_named Leaks words form = form.1
 is_named Paths words form = form.1
+is_named (Delays format) words form = form.1
 is_named Show words form = form.1
 is_named Save words form = form.1
 is_named Node words form = form.1
@@ -73,12 +78,13 @@ is_named Parts words form = form.1
 abbrev key_of : List ℕ → ℕ
 key_of word = get_or word 0 0 + 256 * get_or word 1 0 + 65536 * get_or word 2 0 + 16777216 * get_or word 4 0
 
--- the command of a key, with these numbers
-abbrev keyed : ℕ → ℕ → ℕ → ℕ → Command
-keyed key seed count workers =
+-- the command of a key, with this format and these numbers
+abbrev keyed : ℕ → Format → ℕ → ℕ → ℕ → Command
+keyed key format seed count workers =
     if nat_eq key (key_of (codes "filter")) then Filter
     else if nat_eq key (key_of (codes "leaks")) then Leaks
     else if nat_eq key (key_of (codes "paths")) then Paths
+    else if nat_eq key (key_of (codes "delays")) then Delays format
     else if nat_eq key (key_of (codes "show")) then Show
     else if nat_eq key (key_of (codes "save")) then Save
     else if nat_eq key (key_of (codes "node")) then Node
@@ -91,6 +97,10 @@ keyed key seed count workers =
     else if nat_eq key (key_of (codes "part")) then Part
     else if nat_eq key (key_of (codes "merge")) then Merge
     else Parts
+
+abbrev format_in : Command → Format
+format_in (Delays format) = format
+format_in _ = Ptp
 
 abbrev seed_in : Command → ℕ
 seed_in (Bulk seed count workers) = seed
@@ -105,13 +115,14 @@ workers_in (Run workers) = workers
 workers_in (Bulk seed count workers) = workers
 workers_in _ = 0
 
-abbrev with_numbers_of : Command → ℕ → Command
-with_numbers_of command key = keyed key (seed_in command) (count_in command) (workers_in command)
+abbrev with_words_of : Command → ℕ → Command
+with_words_of command key = keyed key (format_in command) (seed_in command) (count_in command) (workers_in command)
 
-is_keyed : (command : Command) → with_numbers_of command (key_of (named command)) ≡ command
+is_keyed : (command : Command) → with_words_of command (key_of (named command)) ≡ command
 is_keyed Filter = refl
 is_keyed Leaks = refl
 is_keyed Paths = refl
+is_keyed (Delays format) = refl
 is_keyed Show = refl
 is_keyed Save = refl
 is_keyed Node = refl
@@ -125,11 +136,24 @@ is_keyed Part = refl
 is_keyed Merge = refl
 is_keyed Parts = refl
 
+-- the format that one of these words stands for, by their first and second letters
+abbrev format_by : List ℕ → Format
+format_by word = if nat_eq (get_or word 0 0) 110 then Ntp else if nat_eq (get_or word 1 0) 111 then Posix else Ptp
+
+is_by : (format : Format) → format_by (format_name format) ≡ format
+is_by Ptp = refl
+is_by Ntp = refl
+is_by Posix = refl
+
+-- a word stands for one format at most
+same_format : (one format : Format) → format_name one ≡ format_name format → one ≡ format
+same_format one format names = sym (is_by one) ∙ ap format_by names ∙ is_by format
+
 module _ (words : List (List ℕ)) where
-  -- another command of these words is this one, with its own numbers
-  other : (one command : Command) → IsForm one words → IsForm command words → with_numbers_of command (key_of (named one)) ≡ command
+  -- another command of these words is this one, with its own format and numbers
+  other : (one command : Command) → IsForm one words → IsForm command words → with_words_of command (key_of (named one)) ≡ command
   other one command is form =
-      ap (λ word. with_numbers_of command (key_of word)) (sym (is_named one words is) ∙ is_named command words form) ∙ is_keyed command
+      ap (λ word. with_words_of command (key_of word)) (sym (is_named one words is) ∙ is_named command words form) ∙ is_keyed command
 
   same_workers : (one workers : ℕ) (word : List ℕ) → IsWorkers one word → IsWorkers workers word → one ≡ workers
   same_workers one workers word is form = decimal_injective one workers (omega (arith, is.2)) (omega (arith, form.2)) (sym is.0 ∙ form.0)
@@ -151,6 +175,10 @@ module _ (words : List (List ℕ)) where
   one_form Part command is form = other Part command is form
   one_form Merge command is form = other Merge command is form
   one_form Parts command is form = other Parts command is form
+  one_form (Delays format) command is form =
+      let same : Delays (format_in command) ≡ command = other (Delays format) command is form in
+      let its : IsForm (Delays (format_in command)) words = subst (λ k. IsForm k words) (sym same) form in
+      ap Delays (same_format format (format_in command) (sym is.2 ∙ its.2)) ∙ same
   one_form (Run workers) command is form =
       let same : Run (workers_in command) ≡ command = other (Run workers) command is form in
       let its : IsForm (Run (workers_in command)) words = subst (λ k. IsForm k words) (sym same) form in

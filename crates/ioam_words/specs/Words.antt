@@ -1,8 +1,9 @@
 -- The forms of a command line.
 use Rattle.std.specs.Prelude.{◌≡◌, ◌≤◌, ◌<◌, ◌^◌, ℕ, List, length, codes, decimal}
 use Rattle.ioam_desk_outputs.specs.Names.{name_at}
+use Rattle.ioam_words.specs.Formats.{format_name}
 use Rattle.ioam_words.specs.declared.command.Command.{Command}
-use Rattle.ioam_words.specs.declared.command.Command.TheVariants.{Filter, Leaks, Paths, Show, Save, Node, Audit, Run, Bulk, Collect, Ipfix, Records, Part, Merge, Parts}
+use Rattle.ioam_words.specs.declared.command.Command.TheVariants.{Filter, Leaks, Paths, Delays, Show, Save, Node, Audit, Run, Bulk, Collect, Ipfix, Records, Part, Merge, Parts}
 
 -- the word spells a number of workers, 1 to 64, in decimal digits without a sign and without a zero in front
 abbrev pub IsWorkers : ℕ → List ℕ → Type 0
@@ -16,7 +17,8 @@ IsCount count word = (word ≡ decimal count) × (1 ≤ count) × (count ≤ 100
 abbrev pub IsSeed : ℕ → List ℕ → Type 0
 IsSeed seed word = (word ≡ decimal seed) × (seed < 2 ^ 64)
 
--- The words are of a command's form: `filter IN OUT REPORT`, `leaks IN OUT REPORT`, `paths IN REPORT`, `show IN REPORT`, `save IN OUT`,
+-- The words are of a command's form: `filter IN OUT REPORT`, `leaks IN OUT REPORT`, `paths IN REPORT`, `delays FORMAT IN REPORT`,
+-- `show IN REPORT`, `save IN OUT`,
 -- `node DOMAIN READINGS NODE LINK IN OUT REPORT EXPORTS`, `audit DOMAIN NODE LINK BEFORE AFTER REPORT`, `run DOMAIN READINGS WORKERS REPORT EXPORTS`,
 -- `bulk SEED COUNT WORKERS REPORT`, `collect EXPORTS REPORT`, `ipfix EXPORTS OUT`, `records IN OUT`, `part EXPORTS PART`, `merge ONE TWO PART`,
 -- `parts PART REPORT`.
@@ -24,6 +26,7 @@ abbrev pub IsForm : Command → List (List ℕ) → Type 0
 IsForm Filter words = (length words ≡ 4) × (name_at words 0 ≡ codes "filter")
 IsForm Leaks words = (length words ≡ 4) × (name_at words 0 ≡ codes "leaks")
 IsForm Paths words = (length words ≡ 3) × (name_at words 0 ≡ codes "paths")
+IsForm (Delays format) words = (length words ≡ 4) × (name_at words 0 ≡ codes "delays") × (name_at words 1 ≡ format_name format)
 IsForm Show words = (length words ≡ 3) × (name_at words 0 ≡ codes "show")
 IsForm Save words = (length words ≡ 3) × (name_at words 0 ≡ codes "save")
 IsForm Node words = (length words ≡ 9) × (name_at words 0 ≡ codes "node")

@@ -2,8 +2,10 @@
 ghost use Rattle.std.specs.Prelude.{◌≡◌, ◌↔◌, ℕ, IsTrue, MatchOption, codes};
 ghost use Rattle.ioam_words.specs.Words.{IsBulk, IsCount, IsForm, IsNoForm, IsNoBulk, IsSeed, IsWorkers};
 
+use crate::format::format_of;
 use ioam_base::digits::decimal_below;
 use ioam_base::name::Name;
+use ioam_topo::Format;
 
 /// What a command line asks for.
 #[derive(Clone, Copy, Debug, PartialEq, Eq)]
@@ -14,6 +16,8 @@ pub enum Command {
     Leaks,
     /// `paths IN REPORT`
     Paths,
+    /// `delays FORMAT IN REPORT`
+    Delays { format: Format },
     /// `show IN REPORT`
     Show,
     /// `save IN OUT`
@@ -101,6 +105,10 @@ pub fn parse(words: &[Name]) -> Option<Command>
         ("filter", 4) => Some(Command::Filter),
         ("leaks", 4) => Some(Command::Leaks),
         ("paths", 3) => Some(Command::Paths),
+        ("delays", 4) => {
+            let format = format_of(&words[1])?;
+            Some(Command::Delays { format })
+        }
         ("show", 3) => Some(Command::Show),
         ("save", 3) => Some(Command::Save),
         ("node", 9) => Some(Command::Node),

@@ -2,7 +2,9 @@
 #![tactic(auto)]
 
 mod command;
+mod format;
 mod usage;
 
 pub use command::{Command, parse};
+pub use format::format_word;
 pub use usage::say_usage;

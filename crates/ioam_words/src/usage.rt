@@ -3,10 +3,11 @@ use ioam_base::name::Name;
 use std::io::Eprint;
 
 /// What stands behind the program's name, a line a command.
-const FORMS: [&str; 15] = [
+const FORMS: [&str; 16] = [
     "filter IN OUT REPORT",
     "leaks IN OUT REPORT",
     "paths IN REPORT",
+    "delays FORMAT IN REPORT",
     "show IN REPORT",
     "save IN OUT",
     "node DOMAIN READINGS NODE LINK IN OUT REPORT EXPORTS",
