@@ -2,7 +2,7 @@
 use Rattle.std.proofs.Common.{◌≡◌, ◌⊎◌, ℕ, Bool, IsTrue, List, sym, subst}
 use Rattle.ioam_cmd.specs.Promise.{Asked, Keeps}
 use Rattle.ioam_words.specs.declared.command.Command.{Command}
-use Rattle.ioam_words.specs.declared.command.Command.TheVariants.{Filter, Leaks, Paths, Show, Save, Node, Audit, Run, Bulk, Collect, Ipfix, Records, Part, Merge, Parts}
+use Rattle.ioam_words.specs.declared.command.Command.TheVariants.{Filter, Leaks, Paths, Delays, Show, Save, Node, Audit, Run, Bulk, Collect, Ipfix, Records, Part, Merge, Parts}
 use Rattle.ioam_desk.specs.Desk.{Rose, holds}
 use Rattle.ioam_desk.specs.Kept.{KeepsInputs, KeepsOutputs}
 use Rattle.ioam_desk.proofs.KeptLaws.{KeepsInputs-same}
@@ -30,6 +30,7 @@ module _ (opens : Bool) (desks : Desks) (words : List (List ℕ)) (told : IsTrue
   answers_asked Filter answer asked keeps asks = keeps.keeps.exact asked told asks reads writes
   answers_asked Leaks answer asked keeps asks = keeps.exact asked told asks reads writes
   answers_asked Paths answer asked keeps asks = keeps.exact asked told asks reads writes
+  answers_asked (Delays format) answer asked keeps asks = keeps.exact asked told asks reads writes
   answers_asked Show answer asked keeps asks = keeps.exact asked told asks reads writes
   answers_asked Save answer asked keeps asks = keeps.keeps.exact asked told asks reads writes
   answers_asked Node answer asked keeps asks = keeps.exact asked told asks reads writes
@@ -163,6 +164,7 @@ pub sound : (opens : Bool) (desks : Desks) (words : List (List ℕ)) (command : 
 sound opens desks words Filter answer keeps = of_capture desks answer _ _ keeps.keeps
 sound opens desks words Leaks answer keeps = of_capture desks answer _ _ keeps
 sound opens desks words Paths answer keeps = of_capture desks answer _ _ keeps
+sound opens desks words (Delays format) answer keeps = of_capture desks answer _ _ keeps
 sound opens desks words Show answer keeps = of_capture desks answer _ _ keeps
 sound opens desks words Save answer keeps = of_capture desks answer _ _ keeps.keeps
 sound opens desks words Node answer keeps = record {

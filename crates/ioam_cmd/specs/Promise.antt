@@ -1,9 +1,9 @@
 -- What the top call promises of each command, in the words of the command's own crate. `opens` says that the gate of the
 -- workers always opens.
-use Rattle.std.specs.Prelude.{◌≡◌, ℕ, Bool, IsTrue, List}
+use Rattle.std.specs.Prelude.{◌≡◌, ℕ, Bool, IsTrue, List, drop}
 use Rattle.ioam_run_measured.specs.Measured.{Measures}
 use Rattle.ioam_words.specs.declared.command.Command.{Command}
-use Rattle.ioam_words.specs.declared.command.Command.TheVariants.{Filter, Leaks, Paths, Show, Save, Node, Audit, Run, Bulk, Collect, Ipfix, Records, Part, Merge, Parts}
+use Rattle.ioam_words.specs.declared.command.Command.TheVariants.{Filter, Leaks, Paths, Delays, Show, Save, Node, Audit, Run, Bulk, Collect, Ipfix, Records, Part, Merge, Parts}
 use Rattle.ioam_desk.specs.Desk.{holds}
 use Rattle.ioam_run_audit.specs.Names.{name_at}
 use Rattle.ioam_run_answer.specs.Desks.{Desks}
@@ -15,6 +15,7 @@ use Rattle.ioam_run_bulk.specs.Promise as bulk
 use Rattle.ioam_run_capture.specs.Promise.{FilterKeeps, PathsKeeps, SaveKeeps, ShowKeeps}
 use Rattle.ioam_run_collect.specs.Promise as collect
 use Rattle.ioam_run_collect.specs.Promise.{collect_names}
+use Rattle.ioam_run_delays.specs.Promise.{DelaysKeeps}
 use Rattle.ioam_run_domain.specs.Promise as domain
 use Rattle.ioam_run_domain.specs.Promise.{RunNames, run_names}
 use Rattle.ioam_run_ipfix.specs.Promise.{IpfixAsked, IpfixKeeps, RecordsAsked, RecordsKeeps, ipfix_names, records_names}
@@ -26,7 +27,7 @@ use Rattle.ioam_run_part.specs.MergePromise.{MergeAsked, MergeKeeps}
 use Rattle.ioam_run_part.specs.PartPromise.{PartAsked, PartKeeps}
 use Rattle.ioam_run_part.specs.PartsPromise.{PartsAsked, PartsKeeps}
 use Rattle.ioam_run_audit.specs.RunStreamPromise as capture
-use Rattle.ioam_run_audit.specs.RunStreamPromise.{capture_names}
+use Rattle.ioam_run_audit.specs.RunStreamPromise.{CaptureNames, capture_names}
 
 -- of `run` also that what it leaves in EXPORTS is all records of its arrivals, and that of these octets, wherever it reads them
 -- later, `collect` tells the whole path of each packet that was exported of; after WriteFault and NoMemory it is a front of
@@ -34,6 +35,10 @@ use Rattle.ioam_run_audit.specs.RunStreamPromise.{capture_names}
 pub record RunKeeps (opens : Bool) (desks : Desks) (files : RunNames) (answer : Outcome) : Type 0 where
   pub keeps : domain.Keeps opens desks files answer
   pub measured : IsTrue desks.tells → Measures opens files desks.old_in desks.new_in desks.old desks.new answer
+
+-- IN and REPORT of `delays` come after FORMAT
+abbrev pub delays_names : List (List ℕ) → CaptureNames
+delays_names words = capture_names (drop 1 words)
 
 -- REPORT is the fourth word of `bulk`
 abbrev pub bulk_report : List (List ℕ) → List ℕ
@@ -46,6 +51,7 @@ module _ (opens : Bool) (desks : Desks) (words : List (List ℕ)) where
   Keeps Filter answer = FilterKeeps desks (capture_names words) answer
   Keeps Leaks answer = LeaksKeeps desks (capture_names words) answer
   Keeps Paths answer = PathsKeeps desks (capture_names words) answer
+  Keeps (Delays format) answer = DelaysKeeps format desks (delays_names words) answer
   Keeps Show answer = ShowKeeps desks (capture_names words) answer
   Keeps Save answer = SaveKeeps desks (capture_names words) answer
   Keeps Node answer = node.Keeps desks (node_names words) answer
@@ -66,6 +72,7 @@ module _ (desks : Desks) (words : List (List ℕ)) where
   Asked Filter answer = capture.Asked desks (capture_names words) answer
   Asked Leaks answer = capture.Asked desks (capture_names words) answer
   Asked Paths answer = capture.Asked desks (capture_names words) answer
+  Asked (Delays format) answer = capture.Asked desks (delays_names words) answer
   Asked Show answer = capture.Asked desks (capture_names words) answer
   Asked Save answer = capture.Asked desks (capture_names words) answer
   Asked Node answer = node.Asked (node_names words) desks.old answer

@@ -17,6 +17,7 @@ use ioam_run_audit::{AuditFiles, run_audit};
 use ioam_run_bulk::run_bulk;
 use ioam_run_capture::{CaptureFiles, run_filter, run_paths, run_save, run_show};
 use ioam_run_collect::{CollectFiles, run_collect};
+use ioam_run_delays::run_delays;
 use ioam_run_domain::{Gate, RunFiles, run_domain};
 use ioam_run_ipfix::{IpfixFiles, RecordsFiles, run_ipfix, run_records};
 use ioam_run_leaks::run_leaks;
@@ -77,6 +78,9 @@ fn run_command<R: Threads + Sync, D: Desk, G: Gate>(
         Command::Filter => run_filter(alloc, &CaptureFiles::of(words), desk),
         Command::Leaks => run_leaks(alloc, &CaptureFiles::of(words), desk),
         Command::Paths => run_paths(alloc, &CaptureFiles::of(words), desk),
+        Command::Delays { format } => {
+            run_delays(alloc, format, &CaptureFiles::of(&words[1..]), desk)
+        }
         Command::Show => run_show(alloc, &CaptureFiles::of(words), desk),
         Command::Save => run_save(alloc, &CaptureFiles::of(words), desk),
         Command::Node => run_node(alloc, &NodeFiles::of(words), desk),

@@ -7,9 +7,10 @@ use Rattle.ioam_delay_lines.specs.Spaces.{spaces_text}
 use Rattle.ioam_delay_traces.specs.Totals.{AreTotals}
 use Rattle.ioam_delay_traces.specs.declared.totals.Totals.{Totals}
 use Rattle.ioam_pcap.specs.Entries.{Taken}
-use Rattle.ioam_run_delays.specs.Format.{format_name, units_of}
+use Rattle.ioam_run_delays.specs.Format.{units_of}
 use Rattle.ioam_run_delays.specs.Observation.{Observation, ShowAll}
 use Rattle.ioam_topo.specs.declared.format.Format.{Format}
+use Rattle.ioam_words.specs.Formats.{format_name}
 
 -- the traces that a record shows
 abbrev pub traces_of : Observation → List (Option Course)

@@ -1,5 +1,5 @@
 -- The formats of time stamps (RFC 9197 section 5).
-use Rattle.std.specs.Prelude.{ℕ, ◌^◌, List, codes}
+use Rattle.std.specs.Prelude.{ℕ, ◌^◌}
 use Rattle.ioam_topo.specs.declared.format.Format.{Format}
 use Rattle.ioam_topo.specs.declared.format.Format.TheVariants.{Ptp, Ntp, Posix}
 
@@ -8,9 +8,3 @@ abbrev pub units_of : Format → ℕ
 units_of Ptp = 10 ^ 9
 units_of Ntp = 2 ^ 32
 units_of Posix = 10 ^ 6
-
--- its word
-abbrev pub format_name : Format → List ℕ
-format_name Ptp = codes "ptp"
-format_name Ntp = codes "ntp"
-format_name Posix = codes "posix"

@@ -1,6 +1,6 @@
 //! The formats of time stamps (RFC 9197 section 5).
 ghost use Rattle.std.specs.Prelude.{◌≡◌, ◌≤◌, ◌^◌};
-ghost use Rattle.ioam_run_delays.specs.Format.{format_name, units_of};
+ghost use Rattle.ioam_run_delays.specs.Format.{units_of};
 
 use ioam_topo::Format;
 
@@ -13,16 +13,5 @@ pub fn units_of(format: Format) -> u64
         Format::Ptp => 1_000_000_000,
         Format::Ntp => 4_294_967_296,
         Format::Posix => 1_000_000,
-    }
-}
-
-/// The word of a format.
-pub fn format_word(format: Format) -> &'static str
-    ensures { result.now ≡ format_name format }
-{
-    match format {
-        Format::Ptp => "ptp",
-        Format::Ntp => "ntp",
-        Format::Posix => "posix",
     }
 }

@@ -6,7 +6,7 @@ ghost use Rattle.ioam_run_delays.specs.DelaysText.{is_skipped, report_text, tota
 ghost use Rattle.ioam_run_delays.specs.Observation.{Observation, PacketShows, Shows};
 ghost use Rattle.ioam_run_stream.specs.Reader.{taken_of};
 
-use crate::format::{format_word, units_of};
+use crate::format::units_of;
 use ioam_base::memory::NoMemory;
 use ioam_delay_lines::{
     put_beyond_row, put_format_row, put_packets_row, put_spaces, put_traces_row,
@@ -18,6 +18,7 @@ use ioam_ip::{Framed, Walk, walk};
 use ioam_pcap::{Link, Packet};
 use ioam_run_stream::{Gather, framed};
 use ioam_topo::Format;
+use ioam_words::format_word;
 use std::alloc::Global;
 
 /// What is counted of the traces of a capture, in time stamps of a format. Its output is the report.
