@@ -5,7 +5,7 @@
 
 PROGRAM is this repository's `ioam` where none is given. The limits: 16,777,216 packets of a capture, 33,554,432 blocks of a pcapng
 capture and 16,777,216 octets of one, 67,108,864 export records, 67,108,865 messages with such and 1,048,576 that are held or stand
-in a part, 64 MiB of READINGS. Behind each stand what is one too many, a cut and a fault. The line, the status and each output's
+in a part, 64 MiB of READINGS, 1,024 rows of each kind in a report of `delays`. Behind each stand what is one too many, a cut and a fault. The line, the status and each output's
 octets are compared; a line for each case, and status 1 where one differs. It needs 1.3 GB in the folder for temporary files, and
 takes about five minutes.
 """
@@ -22,7 +22,7 @@ HEAD = bytes.fromhex("a1b23c4d0002000400000000000000000004000000000065")
 SECTION = bytes.fromhex("0a0d0d0a0000001c1a2b3c4d00010000ffffffffffffffff0000001c")
 SKIPPED = bytes.fromhex("00000bad0000000c0000000c")
 PACKETS, BLOCKS, READ, HELD, READINGS, BLOCK = 2**24, 2**25, 2**26, 2**20, 2**26, 2**24
-MESSAGES, MARK = READ + 1, b"IOAMPART"
+MESSAGES, ROWS, MARK = READ + 1, 1024, b"IOAMPART"
 TWO_NODES = b"""
 node = [{ name = "a", id = 1, address = "::1" }, { name = "b", id = 2, address = "::2" }]
 link = [{ name = "ab", from = "a", to = "b", out_id = 1, in_id = 2, delay = 0, mtu = 1500 }]
@@ -235,7 +235,49 @@ def parts(program):
         yield case(program, "parts A R", {"A": given}, f"part A {fault}", 13, {"R": None})
 
 
-PARTS = (readings, blocks, held, read, packets, audited, messages, written, read_back, parts)
+def traced(space, nodes):
+    """A record of a packet with a trace of these nodes."""
+    words = b"".join(bytes([63 - at]) + node.to_bytes(3, "big") for at, node in reversed(list(enumerate(nodes))))
+    data = bytes(2) + space.to_bytes(2, "big") + bytes.fromhex("080080000000") + words
+    octets = bytes([1, 0, 0x31, len(data)]) + data + (bytes.fromhex("01020000") if len(nodes) % 2 else b"")
+    packet = b"\x60\0\0\0" + (2 + len(octets)).to_bytes(2, "big") + bytes([0, 64 - len(nodes)]) + bytes(32)
+    packet += bytes([59, (2 + len(octets)) // 8 - 1]) + octets
+    return bytes(8) + len(packet).to_bytes(4, "big") * 2 + packet
+
+
+def delayed_space(space, traces, ways, hops, nodes):
+    """The lines of a namespace without times: its ways, hops and nodes, each with how often it comes."""
+    yield b"namespace %d traces %d overflow 0 empty 0\n" % (space, traces)
+    for way, count in ways:
+        tenths = (2000 * count + traces) // (2 * traces)
+        yield b"  way %s count %d share %d.%d delays 0\n" % (way, count, tenths // 10, tenths % 10)
+    for one, other, count in hops:
+        yield b"  hop %d %d past 0 count %d share - delays 0\n" % (one, other, count)
+    for node, count in nodes:
+        yield b"  node %d seen %d stamped 0 bad 0 long 0 delays 0\n" % (node, count)
+
+
+def delayed(program):
+    """Rows of `delays`: those of the first keys, and what finds none. The first trace comes again as the last."""
+    for count in (ROWS, ROWS + 1):
+        times = [(1, 2)] + [(number, 1) for number in range(2, ROWS + 1)]
+        beyond, lone = count - ROWS, list(delayed_space(7, count + 1, [(b"%d" % node, seen) for node, seen in times], [], times))
+        pairs = [(b"9999 %d" % node, seen) for node, seen in times], [(9999, node, seen) for node, seen in times]
+        kinds = (([(7, [number]) for number in range(1, count + 1)], lone, (0, beyond, 0, beyond)),
+                 ([(7, [9999, number]) for number in range(1, count + 1)],
+                  delayed_space(7, count + 1, *pairs, times[:-1] + [(9999, count + 1)]), (0, beyond, beyond, beyond + 1)),
+                 ([(number, [7]) for number in range(1, count + 1)],
+                  [line for space, seen in times for line in delayed_space(space, seen, [(b"7", seen)], [], [(7, seen)])],
+                  (beyond, beyond, 0, beyond)))
+        for traces, lines, others in kinds:
+            row = [b"beyond namespaces %d ways %d hops %d nodes %d\n" % others] if any(others) else []
+            sums = b"traces %d overflow 0 bad 0\npackets %d skipped 0\n" % (count + 1, count + 1)
+            text = itertools.chain([b"format ptp fractions 0 most - narrowest -\n"], lines, row, [sums])
+            given = {"I": itertools.chain([HEAD], (traced(*trace) for trace in traces + traces[:1]))}
+            yield case(program, "delays ptp I P", given, "done", 0, {"P": text})
+
+
+PARTS = (delayed, readings, blocks, held, read, packets, audited, messages, written, read_back, parts)
 
 
 def main():

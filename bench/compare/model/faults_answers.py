@@ -1,6 +1,7 @@
 """What the program answers: the words' form, the order of refusals, the line, the status and every output file."""
 
 from audit_packets import Audit, Seat
+from delays_reports import UNITS, delays
 from exports_records import collected, group_lines, read_exports
 from faults_domain import read_domain
 from faults_reach import reached
@@ -16,7 +17,7 @@ from texts_reports import filtered, paths, saved, show
 STATUS = ("done", "usage", "names", "domain", "readings", "capture", "exports", "packets", "records", "read", "write", "no",
           "ipfix", "part")
 WORDS = {"run": 5, "node": 8, "paths": 2, "collect": 2, "show": 2, "filter": 3, "leaks": 3, "save": 2, "bulk": 4, "audit": 6, "ipfix": 2,
-         "records": 2, "part": 2, "merge": 3, "parts": 2}
+         "records": 2, "part": 2, "merge": 3, "parts": 2, "delays": 3}
 MOST_PACKETS = 16_777_216
 
 
@@ -40,6 +41,8 @@ def is_form(words):
         return False
     if words[0] == "run":
         return within(words[3], 1, 64)
+    if words[0] == "delays":
+        return words[1] in UNITS
     if words[0] == "bulk":
         return within(words[1], 0, 2**64 - 1) and within(words[2], 1, 1_000_000) and within(words[3], 1, 64)
     return True
@@ -213,7 +216,15 @@ def parts(files, words):
     return "done", {words[2]: (group_lines(found) + f"kept {len(found)}\n").encode()}
 
 
-BY_WORDS = {"node": node, "run": run, "collect": collect, "audit": audit, "ipfix": ipfix, "records": records, "part": part,
+def delayed(files, words):
+    """Says how long the hops and nodes of a capture's traces took."""
+    _, word, given, report = words
+    differ([given, report])
+    line, text = over_capture(files, given, MOST_PACKETS, lambda arrivals: delays(word, arrivals))
+    return line, {report: text}
+
+
+BY_WORDS = {"delays": delayed, "node": node, "run": run, "collect": collect, "audit": audit, "ipfix": ipfix, "records": records, "part": part,
             "merge": merge, "parts": parts}
 
 

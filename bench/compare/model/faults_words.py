@@ -2,6 +2,7 @@
 
 import audit_random
 import ng_random
+from delays_random import over_delays
 from exports_random import exports
 from faults_domain import read_domain
 from faults_random import domain_file
@@ -193,7 +194,7 @@ def over_numbers(rng):
 
 def odd_words(rng):
     """Words that are of no form, or name one file twice, or one that isn't there."""
-    words, files = rng.choice((over_capture, over_records, over_node, over_audit, over_messages, over_parts))(rng)
+    words, files = rng.choice((over_capture, over_records, over_node, over_audit, over_messages, over_parts, over_delays))(rng)
     way = rng.random()
     if way < 0.2:
         words = [rng.choice(ODD_WORDS) for _ in range(rng.randint(0, 10))]
@@ -210,12 +211,12 @@ def odd_words(rng):
 
 
 SHARES = ((over_capture, 16), (over_node, 16), (over_faulty_domain, 17), (over_faulty_readings, 3), (over_records, 6),
-          (over_shipped, 3), (odd_words, 4), (over_audit, 17), (over_messages, 9), (over_parts, 9))
+          (over_shipped, 3), (odd_words, 4), (over_audit, 17), (over_messages, 9), (over_parts, 9), (over_delays, 8))
 
 
 MAKERS = {"filter": over_capture, "leaks": over_capture, "paths": over_capture, "show": over_capture, "save": over_capture, "node": over_node,
           "run": over_faulty_domain, "collect": over_records, "audit": over_audit, "ipfix": over_messages,
-          "records": over_messages, "part": over_parts, "merge": over_parts, "parts": over_parts, "bulk": over_numbers}
+          "records": over_messages, "part": over_parts, "merge": over_parts, "parts": over_parts, "bulk": over_numbers, "delays": over_delays}
 
 
 def some_input(rng):

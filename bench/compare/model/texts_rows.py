@@ -137,6 +137,26 @@ def list_rows():
     expect("\n  11 at 44 edge 7 4000 seq32=0\n" in over("show I P", {"I": capture(edge)})[1]["P"].decode(), True)
 
 
+def delay_rows():
+    """Delays of one packet and of a hundred, from a node to the next."""
+    two = "3b040100 31220000 00071800b0000000 3e000002 00000001 {:08x} 3f000001 00000001 0000000a"
+
+    def lines(*stamps):
+        packets = capture(*(packet(two.format(stamp), hops=62) for stamp in stamps))
+        return over("delays posix I P", {"I": packets})[1]["P"].decode().split("\n")
+
+    expect(lines(8010), [
+        "format posix fractions 2 most 8010 narrowest posix", "namespace 7 traces 1 overflow 0 empty 0",
+        "  way 1 2 count 1 share 100.0 delays 1 least 8000000 mean 8000000 most 8000000",
+        "  hop 1 2 past 0 count 1 share 100.0 delays 1 least 8000000 p50 8000000 p90 8000000 p99 8000000 most 8000000 mean 8000000 negative 0",
+        "       7.99ms to  8.12ms 1 " + 40 * "#", "  node 1 seen 1 stamped 1 bad 0 long 0 delays 0",
+        "  node 2 seen 1 stamped 1 bad 0 long 0 delays 0", "traces 1 overflow 0 bad 0", "packets 1 skipped 0", ""])
+    hundred = lines(*range(11, 111))
+    expect(hundred[3].split(" share 100.0 ")[1], "delays 100 least 1000 p50 50175 p90 90111 p99 100000 most 100000 mean 50500 negative 0")
+    expect(hundred[4:7] + hundred[17:19], ["        768ns to  1.02us  1 ##", "      ...", "       1.53us to  2.04us  1 ##",
+                                           "       65.5us to  98.3us 33 " + 40 * "#", "       98.3us to   131us  2 ###"])
+
+
 def export_rows():
     """Export records and their groups."""
     one = bytes.fromhex("01c0001600070080000000000009000000004000000103")
@@ -165,5 +185,5 @@ def fault_rows():
 
 def check():
     """Tries every example."""
-    for rows in (capture_rows, list_rows, node_rows, export_rows, fault_rows):
+    for rows in (capture_rows, list_rows, delay_rows, node_rows, export_rows, fault_rows):
         rows()
