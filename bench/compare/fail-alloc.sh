@@ -53,6 +53,7 @@ try() {
 real=examples/linux-ioam.pcap three=examples/three one=examples/one-node
 outputs=(kept.pcap report) && try filter examples/reasons.pcap kept.pcap report
 outputs=(report) && try paths "$real" report
+outputs=(report) && try delays posix "$real" report
 outputs=(report) && try show "$real" report
 outputs=(saved.pcapng) && try save "$real" saved.pcapng
 outputs=(out.pcap report exports) && try node "$one/domain.toml" "$one/readings" three two-three "$real" out.pcap report exports

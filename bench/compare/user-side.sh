@@ -76,7 +76,7 @@ same() { : >stderr && cat "$2" >wanted && cat "$1" >stdout; judge 0 0 "  $1 is $
 with_domain() { sed "s|$1 = \"[^\"]*\"|$1 = \"$2\"|" "$domain" >domain.toml; }
 # Words and names.
 for words in '' filter 'filter a b' 'filter a b c d' 'paths a' 'paths a b c' 'Filter a b c' --help 'run a b 1 c' \
-    'run a b 1 c d e' 'run a b 0 c d' 'run a b 01 c d' 'run a b x c d' 'run a b 65 c d' 'run a b -1 c d' 'collect a' 'collect a b c' 'node a b c d e f g' 'node a b c d e f g h i' 'Node a b c d e f g h' 'bulk 01 2 1 r' 'bulk 1 0 1 r' 'bulk 1 1000001 1 r' 'bulk 1 2 65 r' \
+    'run a b 1 c d e' 'run a b 0 c d' 'run a b 01 c d' 'run a b x c d' 'run a b 65 c d' 'run a b -1 c d' 'delays ptp a' 'delays ptp a b c' 'delays tai a b' 'delays PTP a b' 'delays a b' 'collect a' 'collect a b c' 'node a b c d e f g' 'node a b c d e f g h i' 'Node a b c d e f g h' 'bulk 01 2 1 r' 'bulk 1 0 1 r' 'bulk 1 1000001 1 r' 'bulk 1 2 65 r' \
     'audit a b c d e' 'audit a b c d e f g' 'Audit a b c d e f' 'ipfix a' 'ipfix a b c' 'records a' 'records a b c' 'part a' 'part a b c' 'merge a b' 'merge a b c d' 'parts a' 'parts a b c' 'parts'; do
     want 1 usage $words
 done
@@ -89,6 +89,7 @@ want 2 "names $real" filter "$real" "$real" report
 want 2 "names $real" filter "$real" out "$real"
 want 2 'names out' filter "$real" out out
 want 2 "names $real" paths "$real" "$real"
+want 2 "names $real" delays ptp "$real" "$real"
 want 2 'names empty' run empty empty 1 report exports
 want 2 "names $domain" run "$domain" "$readings" 1 "$domain" exports
 want 2 'names report' run "$domain" "$readings" 1 report report
@@ -123,6 +124,7 @@ gone out report missing
 for file in missing locked "$long"; do
     want 9 'read fault' filter "$file" out report
     want 9 'read fault' paths "$file" report
+    want 9 'read fault' delays ptp "$file" report
     want 9 'read fault' run "$file" "$readings" 1 report exports
     want 9 'read fault' run "$domain" "$file" 1 report exports
     want 9 'read fault' node "$file" "$readings" b ab "$real" out report exports
@@ -174,6 +176,7 @@ nodes='node a seen 0 dropped 0\nnode b seen 0 dropped 0\nnode c seen 0 dropped 0
 while read -r file status line; do
     want "$status" "$line" filter "$file" out report && holds out "$head" && holds report 'packets 0 kept 0 dropped 0\n'
     want "$status" "$line" paths "$file" report && holds report 'packets 0\n'
+    want "$status" "$line" delays ptp "$file" report && holds report 'format ptp fractions 0 most - narrowest -\ntraces 0 overflow 0 bad 0\npackets 0 skipped 0\n'
     want "$status" "$line" save "$file" out && holds out "$blocks"
     want "$status" "$line" node "$domain" none b ab "$file" out report exports
     holds out "$head" && holds report 'packets 0 out 0 dropped 0\n' && holds exports ''
@@ -237,6 +240,7 @@ for file in shut/out folder missing/out "$long" /dev/full; do
     want 10 'write fault' filter "$real" "$file" report
     want 10 'write fault' filter "$real" out "$file"
     want 10 'write fault' paths "$real" "$file"
+    want 10 'write fault' delays ptp "$real" "$file"
     want 10 'write fault' node "$domain" "$readings" b ab "$real" "$file" report exports
     want 10 'write fault' node "$domain" "$readings" b ab "$real" out "$file" exports
     [ "$file" = /dev/full ] || want 10 'write fault' node "$domain" "$readings" b ab "$real" out report "$file" # EXPORTS is empty
@@ -256,6 +260,7 @@ for file in ./x soft hard "$work/x"; do
     why='is an input of this run'
     want 10 'write fault' filter x "$file" report && want 10 'write fault' filter x out "$file"
     want 10 'write fault' paths x "$file"
+    want 10 'write fault' delays ptp x "$file"
     want 10 'write fault' node "$domain" "$readings" b ab x "$file" report exports
     want 10 'write fault' node "$domain" "$readings" b ab x out report "$file"
     with_domain in x && want 10 'write fault' run domain.toml "$readings" 1 "$file" exports

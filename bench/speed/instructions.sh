@@ -44,6 +44,7 @@ count_all() {
     counted paths.c ../texts paths in.pcap by-hand
     counted paths "$ioam" paths in.pcap out
     cmp by-hand out
+    counted delays "$ioam" delays ptp in.pcap out
     counted show.c ../texts show in.pcap by-hand
     counted show "$ioam" show in.pcap out
     cmp by-hand out
@@ -99,6 +100,7 @@ row '`filter` of pcapng' filter-ng 'a packet' $more filter '`filter`'
 row '`leaks`' leaks 'a packet' $more filter '`filter`'
 row '`leaks` of clean packets' leaks-clean 'a packet' $more_clean filter-clean '`filter`'
 row '`paths`' paths 'a packet' $more paths.c texts.c
+row '`delays`' delays 'a packet' $more paths '`paths`'
 row '`show`' show 'a packet' $more show.c texts.c
 row '`save`' save 'a packet' $more walk walk.c
 row '`node`' node 'a packet' $more walk walk.c
