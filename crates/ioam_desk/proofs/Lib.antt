@@ -1,6 +1,7 @@
 pub mod AskedLaws
 pub mod DeskLaws
 mod HostLaws
+mod IntakeLaws
 pub mod KeptLaws
 mod MovesLaws
 pub mod TouchesLaws

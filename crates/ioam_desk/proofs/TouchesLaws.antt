@@ -1,11 +1,14 @@
 -- Laws of what calls touch: nothing at all, one call after another, a larger footprint, and the calls of a desk.
 use Rattle.std.proofs.Common.{◌≡◌, ℕ, ◌+◌, ◌<◌, ◌≤◌, Bool, IsTrue, List, [], ◌∷◌, ◌++◌, length, All, Contains, Option, Result, Ok, Err, refl, sym, ◌∙◌, ap, subst, append-nil, append_assoc, length-append, arith}
 use Rattle.std.proofs.lemmas.List.Elements.{All-nil, All-cons, All-weaker, All-append, Contains-append_left, Contains-append_right}
-use Rattle.ioam_desk.specs.Desk.{Side, Reading, Writing, Held, FailsToOpen, Fails, opened_side, holds, OpenIn, ReadInto, OpenOut, WriteFrom}
+use Rattle.ioam_desk.specs.Desk.{Side, Reading, Writing, Held, FailsToOpen, Fails, opened_side, holds, OpenIn, ReadInto, OpenOut, Grows, WriteFrom}
 use Rattle.ioam_desk.specs.Kept.{KeepsInputs, KeepsOutputs}
-use Rattle.ioam_desk.specs.Touches.{State, AnswersFailing, Footprint, read_of, write_to, opening, Failing, Quiet, Input, Output, Read, Late, failing_open, failing_read, failing_out, after_read, IsFine, Broke, Loose, HowIn, HowOut, TouchesIn, TouchesOut, Touches, Within}
+use Rattle.ioam_desk.specs.Touches.{State, AnswersFailing, Footprint, read_of, write_to, opening, Failing, Quiet, Input, Output, Read, Late, failing_open, failing_read, failing_out, failing_write, after_read, IsFine, Broke, Loose, HowIn, HowOut, TouchesIn, TouchesOut, Touches, Within}
 use Rattle.ioam_desk.specs.declared.fault.DeskFault.{DeskFault}
+use Rattle.ioam_desk.specs.Whole.{WritesSide}
 use Rattle.ioam_desk.specs.declared.fault.DeskFault.TheVariants.{Failed, NoMemory}
+use Rattle.ioam_desk.specs.declared.fault.WriteAll.{WriteAll}
+use Rattle.ioam_desk.specs.declared.fault.WriteAll.TheVariants as write
 
 -- ---- nothing
 
@@ -323,6 +326,29 @@ touches-write tells old new slot from (Err Failed) failed kept = only_out tells 
 })
 touches-write tells old new slot from (Err NoMemory) same kept = only_out tells (write_to slot) Quiet old new (fine-same old.inputs.side) kept
     (out_still tells (λ k. k ≡ slot) [] old.outputs new.outputs same)
+
+-- one slot grew
+grown-out : (tells : Bool) (x : Failing) (old new : Writing) (slot : ℕ) (octets : List ℕ) → new.side.asked ≡ old.side.asked → HowOut x old.side new.side
+    → Grows tells old new slot octets → TouchesOut tells (λ k. k ≡ slot) [] x old new
+grown-out tells x old new slot octets asked how grows = record {
+  asked = [];
+  asks = asked_none old.side new.side asked;
+  among = All-nil (Contains []);
+  how = how;
+  written = λ told k below away. grows.other_written k away;
+  files = λ told name outside. ap (λ (files : List ℕ → Option Held). files name) grows.files;
+}
+
+-- octets were written, all or the first ones
+pub touches-write_all : (tells : Bool) (old new : State) (slot : ℕ) (octets : List ℕ) (result : Result (Unit {0}) WriteAll)
+    → WritesSide old.outputs.side result new.outputs.side → Grows tells old.outputs new.outputs slot octets → new.inputs ≡ old.inputs
+    → Touches tells (write_to slot) (failing_write result) old new
+touches-write_all tells old new slot octets (Ok _) same grows kept = only_out tells (write_to slot) Quiet old new (fine-same old.inputs.side) kept
+    (grown-out tells Quiet old.outputs new.outputs slot octets (ap (λ (s : Side). s.asked) same) (subst (λ (s : Side). IsFine old.outputs.side s) (sym same) (fine-same old.outputs.side)) grows)
+touches-write_all tells old new slot octets (Err (write.Failed written)) fails grows kept = only_out tells (write_to slot) Output old new (record { slots = refl }) kept
+    (grown-out tells Output old.outputs new.outputs slot octets fails.asked (fails-broke old.outputs.side new.outputs.side fails) grows)
+touches-write_all tells old new slot octets (Err (write.NoMemory written)) same grows kept = only_out tells (write_to slot) Quiet old new (fine-same old.inputs.side) kept
+    (grown-out tells Quiet old.outputs new.outputs slot octets (ap (λ (s : Side). s.asked) same) (subst (λ (s : Side). IsFine old.outputs.side s) (sym same) (fine-same old.outputs.side)) grows)
 
 -- ---- what follows of a whole run
 

@@ -7,6 +7,7 @@ pub mod Faults
 pub mod Files
 pub mod HostDesk
 pub mod HostSide
+pub mod Intake
 pub mod MemoryDesk
 pub mod Plan
 pub mod Store

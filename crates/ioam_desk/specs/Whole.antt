@@ -1,6 +1,7 @@
 -- A file read whole, and octets written whole.
-use Rattle.std.specs.Prelude.{◌≡◌, ℕ, ◌+◌, ◌<◌, ◌≤◌, ◌⊎◌, Bool, IsTrue, IsSomeAnd, List, [], ◌∷◌, ◌++◌, length, Option, Some, Result, Ok, Err}
+use Rattle.std.specs.Prelude.{◌≡◌, ℕ, ◌+◌, ◌-◌, ◌<◌, ◌≤◌, ◌⊎◌, Bool, true, false, IsTrue, IsSomeAnd, List, [], ◌∷◌, ◌++◌, length, vec_len, Option, Some, Result, Ok, Err}
 use Rattle.ioam_desk.specs.Desk.{Side, Reading, Rose, Fails, SameBut, opened_side}
+use Rattle.ioam_desk.specs.declared.whole.Whole.{Whole}
 use Rattle.ioam_desk.specs.declared.fault.WholeFault.{WholeFault}
 use Rattle.ioam_desk.specs.declared.fault.WholeFault.TheVariants.{Failed, TooLong, NoMemory}
 use Rattle.ioam_desk.specs.declared.fault.WriteAll.{WriteAll}
@@ -13,23 +14,20 @@ pub record Hands (tells : Bool) (old new : Reading) (slot : ℕ) (octets : List 
   pub other_ended : SameBut slot old.ended new.ended
   pub left : IsTrue tells → old.left slot ≡ octets ++ new.left slot
 
--- whatever was handed out since some start, more was
-abbrev pub HandsMore : Bool → Reading → Reading → ℕ → List ℕ → List ℕ → Type 0
-HandsMore tells old new slot before after = (start : Reading) → Hands tells start old slot before → Hands tells start new slot after
+-- these octets were taken: they are kept, or are more than the limit
+pub record Gathers (begun : Whole) (octets : List ℕ) (now : Whole) : Type 0 where
+  pub limit : now.limit ≡ begun.limit
+  pub kept : now.long ≡ false → now.octets.items ≡ octets
+  pub fits : now.long ≡ false → length octets ≤ begun.limit
+  pub long : now.long ≡ true → begun.limit < length octets
 
--- all that was left of a slot was handed out, no more than `limit` octets
-pub record ReadsRest (tells : Bool) (old new : Reading) (slot limit : ℕ) (octets : List ℕ) : Type 0 where
-  pub hands : Hands tells old new slot octets
-  pub all : IsTrue tells → old.left slot ≡ octets
-  pub fits : length octets ≤ limit
-  pub ended : IsTrue tells → IsTrue (new.ended slot)
+-- how many octets are still read, at most: what the limit leaves, and a piece; or none
+abbrev pub room_after : Bool → ℕ → ℕ
+room_after false left = left + 65536
+room_after true left = 0
 
--- why what was left of a slot was not read
-abbrev pub FailsRest : Bool → Reading → Reading → ℕ → ℕ → WholeFault → Type 0
-FailsRest tells old new slot limit Failed = Fails old.side new.side × SameBut slot old.left new.left × SameBut slot old.ended new.ended
-FailsRest tells old new slot limit (TooLong most) = (most ≡ limit) × (new.side ≡ old.side)
-    × (IsTrue tells → limit < length (old.left slot)) × SameBut slot old.left new.left × SameBut slot old.ended new.ended
-FailsRest tells old new slot limit NoMemory = (new.side ≡ old.side) × SameBut slot old.left new.left × SameBut slot old.ended new.ended
+abbrev pub room_of : Whole → ℕ
+room_of whole = room_after whole.long (whole.limit - vec_len whole.octets)
 
 -- a name was read whole, by a new slot that has ended, and no more than `limit` octets came
 pub record ReadsWhole (tells : Bool) (old new : Reading) (held : Option (List ℕ)) (name : List ℕ) (limit : ℕ) (octets : List ℕ) : Type 0 where

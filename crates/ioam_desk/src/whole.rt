@@ -1,12 +1,46 @@
 //! Files that are read whole, and octets that are written whole.
-ghost use Rattle.std.specs.Prelude.{◌≡◌, ◌≤◌, ◌<◌, [], take, length, vec_len, IsTrue, IfOk, IfErr, OnErr, MatchResult, MatchBool};
-ghost use Rattle.ioam_desk.specs.Desk.{Reading, holds, Grows};
-ghost use Rattle.ioam_desk.specs.Whole.{Hands, HandsMore, ReadsRest, FailsRest, ReadsWhole, FailsWhole, sent, WritesSide};
+ghost use Rattle.std.specs.Prelude.{◌≡◌, ◌≤◌, ◌<◌, take, length, OnErr, MatchResult};
+ghost use Rattle.ioam_desk.specs.Desk.{holds, Grows};
+ghost use Rattle.ioam_desk.specs.Whole.{ReadsWhole, FailsWhole, sent, WritesSide};
 
 use crate::desk::Desk;
 use crate::fault::{DeskFault, WholeFault, WriteAll};
-use crate::piece::new_piece;
+use crate::intake::{Intake, read_into};
+use ioam_base::memory::NoMemory;
 use std::alloc::Global;
+
+/// All octets of a file, unless they are more than a limit.
+#[derive(Drop)]
+pub(crate) struct Whole {
+    octets: Vec<u8>,
+    limit: usize,
+    // more than `limit` octets came
+    long: bool,
+}
+
+impl Intake for Whole {
+    ghost use Rattle.ioam_desk.specs.Whole.{Gathers, room_of};
+
+    ghost stands = { Gathers };
+
+    ghost full = { λ whole. whole.long };
+
+    ghost room = { room_of };
+
+    fn is_full(&self) -> bool {
+        self.long
+    }
+
+    fn take(self, piece: &[u8]) -> Result<Whole, NoMemory> {
+        let mut whole = self;
+        if piece.len() > whole.limit.saturating_sub(whole.octets.len()) {
+            whole.long = true;
+            return Ok(whole);
+        }
+        whole.octets.extend_from_slice(piece)?;
+        Ok(whole)
+    }
+}
 
 /// The octets of a file that holds no more than `limit`. The name is opened once, and nothing else
 /// is; other input slots are as before.
@@ -24,73 +58,20 @@ pub fn read_whole<D: Desk>(
         (FailsWhole D.tells (D.reading desk.old) (D.reading desk.new) (holds (D.writing desk.old) name.now) name.now limit) }
     ensures outputs { D.writing desk.new ≡ D.writing desk.old }
 {
-    let Ok(mut piece) = new_piece(alloc) else {
-        return Err(WholeFault::NoMemory);
+    let nothing = Whole {
+        octets: Vec::new(alloc),
+        limit,
+        long: false,
     };
-    let slot = match desk.open_in(name) {
-        Ok(slot) => slot,
+    let whole = match read_into(alloc, desk, name, nothing) {
+        Ok(whole) => whole,
         Err(DeskFault::Failed) => return Err(WholeFault::Failed),
         Err(DeskFault::NoMemory) => return Err(WholeFault::NoMemory),
     };
-    read_slot(alloc, desk, slot, &mut piece, limit)
-}
-
-/// The octets that are left of an input slot, if they are no more than `limit`.
-fn read_slot<D: Desk>(
-    alloc: Global,
-    desk: &mut D,
-    slot: u32,
-    piece: &mut [u8],
-    limit: usize,
-) -> Result<Vec<u8>, WholeFault>
-    requires input { slot < (D.reading desk.old).side.slots }
-    requires room { 0 < length piece.old }
-    ensures inputs { MatchResult result
-        (λ octets. ReadsRest D.tells (D.reading desk.old) (D.reading desk.new) slot limit octets.items)
-        (FailsRest D.tells (D.reading desk.old) (D.reading desk.new) slot limit) }
-    ensures outputs { D.writing desk.new ≡ D.writing desk.old }
-{
-    let mut octets = Vec::new(alloc);
-    'pieces: loop {
-        match read_piece(desk, slot, piece, limit, &mut octets) {
-            Ok(true) => {}
-            Ok(false) => return Ok(octets),
-            Err(fault) => return Err(fault),
-        }
-    }
-}
-
-/// Reads one piece more behind the octets. The answer is false at the end.
-fn read_piece<D: Desk>(
-    desk: &mut D,
-    slot: u32,
-    piece: &mut [u8],
-    limit: usize,
-    octets: &mut Vec<u8>,
-) -> Result<bool, WholeFault>
-    requires input { slot < (D.reading desk.old).side.slots }
-    requires room { 0 < length piece.old }
-    requires fits { vec_len octets.old ≤ limit }
-    ensures more { IfOk result (λ more. (vec_len octets.new ≤ limit)
-        × HandsMore D.tells (D.reading desk.old) (D.reading desk.new) slot octets.old.items octets.new.items
-        × MatchBool more (vec_len octets.old < vec_len octets.new)
-        (IsTrue D.tells → ((D.reading desk.new).left slot ≡ []) × IsTrue ((D.reading desk.new).ended slot))) }
-    ensures fault { IfErr result (λ fault. (start : Reading) → Hands D.tells start (D.reading desk.old) slot octets.old.items
-        → FailsRest D.tells start (D.reading desk.new) slot limit fault) }
-    ensures outputs { D.writing desk.new ≡ D.writing desk.old }
-{
-    let count = match desk.read(slot, piece) {
-        Ok(count) => count,
-        Err(DeskFault::Failed) => return Err(WholeFault::Failed),
-        Err(DeskFault::NoMemory) => return Err(WholeFault::NoMemory),
-    };
-    if count > limit - octets.len() {
+    if whole.long {
         return Err(WholeFault::TooLong { limit });
     }
-    match octets.extend_from_slice(&piece[..count]) {
-        Ok(()) => Ok(count > 0),
-        Err(_) => Err(WholeFault::NoMemory),
-    }
+    Ok(whole.octets)
 }
 
 /// Writes all octets to an output slot.
