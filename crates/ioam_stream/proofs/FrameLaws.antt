@@ -1,8 +1,8 @@
 -- The frame of a run, by where it ended.
 use Rattle.std.specs.Prelude.{⊤}
-use Rattle.std.proofs.Common.{◌≡◌, ℕ, ◌+◌, ◌<◌, Bool, IsTrue, List, [], ◌∷◌, ◌++◌, length, take, Option, Some, refl, sym, ◌∙◌, ap, inl, inr, append-nil, arith}
+use Rattle.std.proofs.Common.{◌≡◌, ℕ, zero, suc, ◌+◌, ◌<◌, ◌≤◌, Bool, IsTrue, List, [], ◌∷◌, ◌++◌, length, take, Option, Some, refl, sym, ◌∙◌, ap, inl, inr, append-nil, length-append, arith}
 use Rattle.std.proofs.lemmas.List.{take_all}
-use Rattle.ioam_desk.specs.Asked.{AsksFront}
+use Rattle.ioam_desk.specs.Asked.{AsksFront, HaveSlots}
 use Rattle.ioam_desk.specs.Desk.{Side, Reading, Writing, holds, opened_each}
 use Rattle.ioam_desk.specs.Touches.{State, Footprint, Failing, Quiet, Read, Touches, Within, opening, HowIn}
 use Rattle.ioam_desk.proofs.TouchesLaws.{touches-none, touches-more, touches-then, touches-quiet_late, touches-slots_in, touches-slots_out, touches-unasked_in, touches-unasked_out}
@@ -12,7 +12,7 @@ use Rattle.ioam_desk_outputs.specs.Names.{name_at}
 use Rattle.ioam_desk_outputs.specs.Open.{AreUnended, AreUnread}
 use Rattle.ioam_desk_outputs.specs.Held.{HoldAllFronts, HoldFronts}
 use Rattle.ioam_desk_outputs.proofs.HeldLaws.{HoldAllFronts-holds}
-use Rattle.ioam_stream.specs.Stage.{Kind, Lawful, unseen}
+use Rattle.ioam_stream.specs.Stage.{Kind, Lawful, HasSaid, unseen}
 use Rattle.ioam_stream.specs.Streams.{Start, IsFedSo, Finishes, Sticks, streams_from, failing}
 use Rattle.ioam_stream.specs.declared.reading.Stop.{Stop}
 use Rattle.ioam_stream.specs.declared.reading.Stop.TheVariants as stop
@@ -42,6 +42,35 @@ held_is : (tells : Bool) (ins outs : List (List ℕ)) (old : State) (i : ℕ) (l
     → holds old.outputs (name_at ins i) ≡ Some (contents tells ins outs old old i)
 held_is tells ins outs old i left is = is ∙ ap (λ (held : Option (List ℕ)). Some (unwrap_or held [])) (sym is)
 
+-- a prefix that isn't shorter is the whole list
+take_whole : {A : Type 0} (count : ℕ) (xs : List A) → length xs ≤ length (take count xs) → take count xs ≡ xs
+take_whole zero [] least = refl
+take_whole zero (x ∷ xs) least = absurd (omega (arith, least))
+take_whole (suc count) [] least = refl
+take_whole {A} (suc count) (x ∷ xs) least = ap (λ (ys : List A). x ∷ ys) (take_whole count xs (omega (arith, least)))
+
+-- no more inputs than names were opened, and all names were given if as many were
+abbrev pub OpensMost : Side → Side → List (List ℕ) → Type 0
+OpensMost old new names = (new.slots ≤ old.slots + length names) × (old.slots + length names ≤ new.slots → new.asked ≡ old.asked ++ names)
+
+-- so it is if each name that was given has its slot
+pub slots_most : (old new : Side) (names : List (List ℕ)) → AsksFront old.asked new.asked names → HaveSlots old new → OpensMost old new names
+slots_most old new names asked slots =
+    let size : length new.asked ≡ length old.asked + length (take asked.0 names) = ap (λ (xs : List (List ℕ)). length xs) asked.1 ∙ length-append old.asked (take asked.0 names) in (
+      omega (arith, slots, size, take_length asked.0 names),
+      λ least. asked.1 ∙ ap (λ (xs : List (List ℕ)). old.asked ++ xs) (take_whole asked.0 names (omega (arith, slots, size, least))),
+    )
+  where
+    take_length : (count : ℕ) (xs : List (List ℕ)) → length (take count xs) ≤ length xs
+    take_length zero [] = omega arith
+    take_length zero (x ∷ xs) = omega arith
+    take_length (suc count) [] = omega arith
+    take_length (suc count) (x ∷ xs) = omega (arith, take_length count xs)
+
+-- or if one could not be opened
+pub fewer_most : (old new : Side) (names : List (List ℕ)) → new.slots < old.slots + length names → OpensMost old new names
+fewer_most old new names fewer = (omega (arith, fewer), λ least. absurd (omega (arith, fewer, least)))
+
 -- a run over opened inputs opens none
 slots_ran : (answer : Stop) (old new : Side) → HowIn (failing answer) old new → length new.asked ≡ length old.asked → new.slots ≡ old.slots
 slots_ran stop.Ended old new how asked = omega (arith, how.slots, asked)
@@ -56,12 +85,15 @@ module _ (tells : Bool) (ins outs : List (List ℕ)) (drains : Type 0) where
   -- it ended while the inputs were opened
   pub frame_ins : (old new : State) (answer : Stop) → (answer ≡ stop.Ended → ⊥)
       → Touches tells (opening ins outs) (failing_all answer) old new → AsksFront old.inputs.side.asked new.inputs.side.asked ins
-      → AreUnread tells old.inputs new.inputs old.outputs ins → new.outputs ≡ old.outputs → Frame tells ins outs old new drains answer
-  frame_ins old new answer not_ended touches asked unread same = record {
+      → AreUnread tells old.inputs new.inputs old.outputs ins → new.outputs ≡ old.outputs → OpensMost old.inputs.side new.inputs.side ins
+      → Frame tells ins outs old new drains answer
+  frame_ins old new answer not_ended touches asked unread same most = record {
     touches = touches;
     asked_in = asked;
     asked_out = (0, ap (λ (w : Writing). w.side.asked) same ∙ sym (append-nil old.outputs.side.asked) ∙ ap (λ (xs : List (List ℕ)). old.outputs.side.asked ++ xs) (sym (none outs)));
     all = λ is. absurd (not_ended is);
+    most = most.0;
+    given = most.1;
     no_output = λ less. same;
     unread = λ less. unread;
     held = λ told i below. held_is tells ins outs old i (new.inputs.left (old.inputs.side.slots + i)) (unread told i below);
@@ -76,11 +108,14 @@ module _ (tells : Bool) (ins outs : List (List ℕ)) (drains : Type 0) where
   pub frame_none : (old : State) → Frame tells ins outs old old drains stop.NoMemory
   frame_none old = frame_ins old old stop.NoMemory no_memory (touches-quiet_late tells (opening ins outs) old old (touches-none tells (opening ins outs) old))
       (0, sym (append-nil old.inputs.side.asked) ∙ ap (λ (xs : List (List ℕ)). old.inputs.side.asked ++ xs) (sym (none ins)))
-      (λ told i below. absurd (omega (arith, below))) refl
+      (λ told i below. absurd (omega (arith, below))) refl (slots_most old.inputs.side old.inputs.side ins asked_none refl)
     where
       none : (xs : List (List ℕ)) → take 0 xs ≡ []
       none [] = refl
       none (x ∷ xs) = refl
+
+      asked_none : AsksFront old.inputs.side.asked old.inputs.side.asked ins
+      asked_none = (0, sym (append-nil old.inputs.side.asked) ∙ ap (λ (xs : List (List ℕ)). old.inputs.side.asked ++ xs) (sym (none ins)))
 
   asked_all : (old new : Side) (names : List (List ℕ)) → new.asked ≡ old.asked ++ names → AsksFront old.asked new.asked names
   asked_all old new names is = (length names, is ∙ ap (λ (xs : List (List ℕ)). old.asked ++ xs) (sym (take_all (length names) names (omega arith))))
@@ -94,6 +129,8 @@ module _ (tells : Bool) (ins outs : List (List ℕ)) (drains : Type 0) where
     asked_in = asked_all old.inputs.side new.inputs.side ins (ap (λ (r : Reading). r.side.asked) same ∙ ap (λ (s : Side). s.asked) side);
     asked_out = asked;
     all = λ is. absurd (not_ended is);
+    most = omega (arith, ap (λ (r : Reading). r.side.slots) same, ap (λ (s : Side). s.slots) side);
+    given = λ opened. ap (λ (r : Reading). r.side.asked) same ∙ ap (λ (s : Side). s.asked) side;
     no_output = λ less. absurd (omega (arith, less, ap (λ (r : Reading). r.side.slots) same, ap (λ (s : Side). s.slots) side));
     unread = λ less told i below. unread told i (omega (arith, below, ap (λ (r : Reading). r.side.slots) same))
         ∙ ap (λ (r : Reading). Some (r.left (old.inputs.side.slots + i))) (sym same);
@@ -137,6 +174,14 @@ module _ (tells : Bool) (ins outs : List (List ℕ)) (drains : Type 0) where
         asked_in = asked_all old.inputs.side new.inputs.side ins asked_in;
         asked_out = asked_all old.outputs.side new.outputs.side outs asked_out;
         all = λ is. (asked_in, asked_out);
+        most = omega (
+          arith,
+          slots_ran answer late.inputs.side new.inputs.side third.inputs.how
+              (ap (λ (xs : List (List ℕ)). length xs) (touches-unasked_in tells (streams_from base_in base_out) (failing answer) late new refl third)),
+          ap (λ (r : Reading). r.side.slots) same_in,
+          ap (λ (s : Side). s.slots) side_in,
+        );
+        given = λ opened. asked_in;
         no_output = λ less. absurd (omega (arith, less, slots_in, ap (λ (r : Reading). r.side.slots) same_in, ap (λ (s : Side). s.slots) side_in));
         unread = λ less. absurd (omega (arith, less, slots_out, ap (λ (s : Side). s.slots) side_out, ap (λ (w : Writing). w.side.slots) same_out));
         held = λ told i below. held_is tells ins outs old i (mid.inputs.left (old.inputs.side.slots + i)) (unread told i (omega (
@@ -203,6 +248,13 @@ module _ {S : Type 0} (kind : Kind S) (tells : Bool) (ins outs : List (List ℕ)
   drained_of old new stage last stop.ReadFault size f is all told i inside = absurd (no_read is)
   drained_of old new stage last stop.WriteFault size f is all told i inside = absurd (no_write is)
   drained_of old new stage last stop.NoMemory size f is all told i inside = absurd (no_memory is)
+
+  -- it has said all of some octets
+  pub said_of : (old new : State) (stage last : S) (answer : Stop) → Finishes kind tells (start_of old stage) new last answer → answer ≡ stop.Ended → HasSaid kind stage last
+  said_of old new stage last stop.Ended f is = f.2
+  said_of old new stage last stop.ReadFault f is = absurd (no_read is)
+  said_of old new stage last stop.WriteFault f is = absurd (no_write is)
+  said_of old new stage last stop.NoMemory f is = absurd (no_memory is)
 
   -- which inputs had ended
   pub marked_of : (old new : State) (stage last : S) (answer : Stop) → length ins ≡ kind.inputs stage → Finishes kind tells (start_of old stage) new last answer

@@ -43,6 +43,7 @@ module _ {S : Type 0} (kind : Kind S) (tells : Bool) (start : Start S) where
   stops_finishes old new stage outputs stop.Ended stops whole texts left ended = (
     λ told. (stops.0.so_far, stops.0.says told, texts told stops.0.so_far stops.0.told),
     λ drains told i inside. subst (λ (b : Bool). IsTrue b) (sym (ended i inside)) (stops.1 drains told i inside),
+    stops.2,
   )
   stops_finishes old new stage outputs stop.ReadFault stops whole texts left ended = (
     stops.0,

@@ -231,6 +231,10 @@ module _ {S : Type 0} (kind : Kind S) (tells : Bool) (start : Start S) where
   streams_left lawful cut state stage least before outputs width left same streams = sticks_left state least before outputs streams.so_far width left same streams.told
       (leads_of lawful state.inputs stage streams.seen streams.so_far streams.fed streams.stands)
 
+  -- what was handed out covers itself
+  covers_handed : (seen : Seen) → Covers (kind.inputs start.begun) seen seen.fed
+  covers_handed seen = record { front = λ i inside. record { rest = []; is = sym (append-nil (seen.fed i)) }; whole = λ i inside done. refl }
+
   -- all is said
   pub streams_ends : (lawful : Lawful kind) (cut : Bool) (state : State) (old new : S) (before after : List Sink) → Ends kind old new before after
       → Streams kind tells start cut state old before → Stopped kind tells start cut state new after
@@ -242,6 +246,7 @@ module _ {S : Type 0} (kind : Kind S) (tells : Bool) (start : Start S) where
       leads = leads_of lawful state.inputs old streams.seen streams.so_far streams.fed streams.stands;
     },
     λ drains told i inside. streams.fed.ended told i inside ∙ ends.drained start.begun streams.seen streams.so_far streams.stands streams.cut_is drains i inside,
+    (streams.seen.fed, streams.so_far, ends.whole start.begun streams.seen streams.so_far streams.seen.fed streams.stands streams.cut_is (covers_handed streams.seen)),
   )
   streams_ends lawful true state old new before after ends streams = (
     streams.seen.fed,

@@ -31,6 +31,9 @@ module _ (tells : Bool) (ins outs : List (List ℕ)) (old new : State) where
     pub asked_out : AsksFront old.outputs.side.asked new.outputs.side.asked outs
     pub all : answer ≡ stop.Ended
         → (new.inputs.side.asked ≡ old.inputs.side.asked ++ ins) × (new.outputs.side.asked ≡ old.outputs.side.asked ++ outs)
+    -- no more inputs are opened than there are names, and all names were given if as many are
+    pub most : new.inputs.side.slots ≤ old.inputs.side.slots + length ins
+    pub given : old.inputs.side.slots + length ins ≤ new.inputs.side.slots → new.inputs.side.asked ≡ old.inputs.side.asked ++ ins
     -- no output is opened before all inputs are, and nothing is read before all outputs are
     pub no_output : new.inputs.side.slots < old.inputs.side.slots + length ins → new.outputs ≡ old.outputs
     pub unread : new.outputs.side.slots < old.outputs.side.slots + length outs → AreUnread tells old.inputs new.inputs old.outputs ins

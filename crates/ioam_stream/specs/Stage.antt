@@ -94,6 +94,10 @@ module _ {S : Type 0} (kind : Kind S) where
     pub so_far : List (List ℕ)
     pub stands : kind.stands begun seen so_far stage
 
+  -- the stage that began as the first has said all of some octets
+  abbrev pub HasSaid : S → S → Type 0
+  HasSaid begun stage = (octets : ℕ → List ℕ) × (so : List (List ℕ)) × kind.texts begun stage Ended octets so
+
   -- what stands before the first item was said
   abbrev pub Begins : S → List Output → List Output → Type 0
   Begins stage before after = (added : List (List ℕ)) × Adds before after added × (kind.fresh stage → kind.stands stage unseen added stage)

@@ -5,7 +5,7 @@ use Rattle.ioam_desk.specs.Touches.{State, Footprint, Failing, Quiet, Read, Outp
 use Rattle.ioam_desk_outputs.specs.Held.{HoldAllFronts, HoldTexts}
 use Rattle.ioam_desk_outputs.specs.Told.{AreTold}
 use Rattle.ioam_desk_outputs.specs.declared.output.Output.{Output as Sink}
-use Rattle.ioam_stream.specs.Stage.{Kind, Seen, How, Ended, Handed, Leads}
+use Rattle.ioam_stream.specs.Stage.{Kind, Seen, How, Ended, Handed, Leads, HasSaid}
 use Rattle.ioam_stream.specs.declared.reading.Pause.{Pause}
 use Rattle.ioam_stream.specs.declared.reading.Pause.TheVariants as pause
 use Rattle.ioam_stream.specs.declared.reading.Piece.{Piece}
@@ -94,7 +94,7 @@ module _ {S : Type 0} (kind : Kind S) (tells : Bool) (start : Start S) where
 
   -- all is said of what the inputs hold, or of what was handed out
   abbrev pub Stopped : Bool → State → S → List Sink → Type 0
-  Stopped false state stage outputs = Halts Ended start.contents state stage outputs × Drains state stage
+  Stopped false state stage outputs = Halts Ended start.contents state stage outputs × Drains state stage × HasSaid kind start.begun stage
   Stopped true state stage outputs = (handed : ℕ → List ℕ) × Splits handed state × Halts Handed handed state stage outputs × Marks state stage
 
   -- what stopped the taking of items
@@ -128,7 +128,7 @@ module _ {S : Type 0} (kind : Kind S) (tells : Bool) (start : Start S) where
 
   -- how a run over opened files ended
   abbrev pub Finishes : State → S → Stop → Type 0
-  Finishes state stage stop.Ended = Holds Ended start.contents state stage × Drains state stage
+  Finishes state stage stop.Ended = Holds Ended start.contents state stage × Drains state stage × HasSaid kind start.begun stage
   Finishes state stage stop.ReadFault = (handed : ℕ → List ℕ) × Splits handed state × Holds Handed handed state stage × Marks state stage
   Finishes state stage stop.WriteFault = Sticks state.outputs
   Finishes state stage stop.NoMemory = Sticks state.outputs

@@ -3,8 +3,9 @@ ghost use Rattle.std.specs.Prelude.{◌≡◌, ◌<◌, ◌≤◌, ◌↔◌, Is
 ghost use Rattle.ioam_desk.specs.Touches.{Touches, state};
 ghost use Rattle.ioam_desk_outputs.specs.Open.{AreSlots};
 ghost use Rattle.ioam_desk_outputs.specs.Told.{AreTold, GathersNothing, unsaid};
-ghost use Rattle.ioam_stream.specs.Stage.{unseen};
+ghost use Rattle.ioam_stream.specs.Stage.{HasSaid, unseen};
 ghost use Rattle.ioam_stream.specs.Streams.{Start, IsFedSo, Finishes, ReadsNone, failing, streams_from};
+ghost use Rattle.ioam_stream.specs.declared.reading.Stop.{Stop};
 ghost use Rattle.ioam_stream.specs.Frame.{Frame, IsBroken, Leaves, Marked, Unsealed, contents};
 ghost use Rattle.ioam_desk_outputs.specs.Names.{AreApart};
 
@@ -74,6 +75,8 @@ pub fn run<S: Stage, D: Desk>(
     ensures sealed { IsTrue D.tells → Unsealed D.tells inputs.now outputs.now (state (D.reading desk.old) (D.writing desk.old)) (state (D.reading desk.new) (D.writing desk.new)) (S.kind.sealed stage.old) (S.kind.parts stage.old) result }
     ensures marks { IsTrue D.tells → Marked D.tells inputs.now outputs.now (state (D.reading desk.old) (D.writing desk.old)) (state (D.reading desk.new) (D.writing desk.new)) (S.kind.marks stage.new) result }
     ensures alone { length inputs.now ≡ 0 → ReadsNone (D.reading desk.old) (D.reading desk.new) result }
+    // Told or not, a stage that answers an end has said all of some octets.
+    ensures said { result ≡ Stop.Ended → HasSaid S.kind stage.old stage.new }
 {
     run_begun(alloc, desk, inputs, outputs, stage)
 }
@@ -103,6 +106,8 @@ fn run_begun<S: Stage, D: Desk>(
     ensures sealed { IsTrue D.tells → Unsealed D.tells inputs.now outputs.now (state (D.reading desk.old) (D.writing desk.old)) (state (D.reading desk.new) (D.writing desk.new)) (S.kind.sealed stage.old) (S.kind.parts stage.old) result }
     ensures marks { IsTrue D.tells → Marked D.tells inputs.now outputs.now (state (D.reading desk.old) (D.writing desk.old)) (state (D.reading desk.new) (D.writing desk.new)) (S.kind.marks stage.new) result }
     ensures alone { length inputs.now ≡ 0 → ReadsNone (D.reading desk.old) (D.reading desk.new) result }
+    // Told or not, a stage that answers an end has said all of some octets.
+    ensures said { result ≡ Stop.Ended → HasSaid S.kind stage.old stage.new }
 {
     let Ok(mut piece) = new_piece(alloc) else {
         return Stop::NoMemory;

@@ -11,7 +11,7 @@ use Rattle.ioam_desk_outputs.specs.declared.output.Output.{Output as Sink}
 use Rattle.ioam_desk_outputs.proofs.ToldLaws.{told_names}
 use Rattle.ioam_stream.specs.Stage.{unseen}
 use Rattle.ioam_stream.specs.Streams.{Start, IsFedSo, Finishes, failing, streams_from}
-use Rattle.ioam_stream.proofs.FrameLaws.{within_ins, frame_none, frame_ins, frame_outs, frame_ran, finishes_leaves, drained_of, unopened_less, unopened_some, unsealed_of, opened_unseen, opened_both, marked_of, no_read, no_write, no_memory, no_fault, no_unread}
+use Rattle.ioam_stream.proofs.FrameLaws.{within_ins, frame_none, frame_ins, frame_outs, frame_ran, finishes_leaves, drained_of, unopened_less, unopened_some, unsealed_of, said_of, fewer_most, slots_most, opened_unseen, opened_both, marked_of, no_read, no_write, no_memory, no_fault, no_unread}
 use Rattle.ioam_stream.proofs.running.run_begun.Goals as goal
 
 pub returns-in_default-clause-frame : goal.returns-in_default-clause-frame
@@ -21,12 +21,14 @@ pub returns-in-Err-Failed-clause-frame : goal.returns-in-Err-Failed-clause-frame
 returns-in-Err-Failed-clause-frame g c = frame_ins g.D.Desk.tells c.args.inputs.now c.args.outputs.now _ (state (g.D.Desk.reading c.args.desk.now) (g.D.Desk.writing c.args.desk.now)) (state (g.D.Desk.reading c.open_inputs.new.desk) (g.D.Desk.writing c.open_inputs.new.desk)) _ no_read
     (touches-more g.D.Desk.tells (opening c.args.inputs.now []) (opening c.args.inputs.now c.args.outputs.now) Input _ _ (within_ins g.D.Desk.tells c.args.inputs.now c.args.outputs.now ⊤) (rw c.in-Err-Failed.field-0-is at c.in-Err-Failed.ensures.touches))
     c.in-Err-Failed.ensures.asked c.in-Err-Failed.ensures.unread c.in-Err-Failed.ensures.outputs
+    (fewer_most (g.D.Desk.reading c.args.desk.now).side (g.D.Desk.reading c.open_inputs.new.desk).side c.args.inputs.now (rw c.in-Err-Failed.field-0-is at c.in-Err-Failed.ensures.fewer))
 
 pub returns-in-Err-NoMemory-clause-frame : goal.returns-in-Err-NoMemory-clause-frame
 returns-in-Err-NoMemory-clause-frame g c = frame_ins g.D.Desk.tells c.args.inputs.now c.args.outputs.now _ (state (g.D.Desk.reading c.args.desk.now) (g.D.Desk.writing c.args.desk.now)) (state (g.D.Desk.reading c.open_inputs.new.desk) (g.D.Desk.writing c.open_inputs.new.desk)) _ no_memory
     (touches-quiet_late g.D.Desk.tells (opening c.args.inputs.now c.args.outputs.now) _ _
     (touches-more g.D.Desk.tells (opening c.args.inputs.now []) (opening c.args.inputs.now c.args.outputs.now) Quiet _ _ (within_ins g.D.Desk.tells c.args.inputs.now c.args.outputs.now ⊤) (rw c.in-Err-NoMemory.field-0-is at c.in-Err-NoMemory.ensures.touches)))
     c.in-Err-NoMemory.ensures.asked c.in-Err-NoMemory.ensures.unread c.in-Err-NoMemory.ensures.outputs
+    (slots_most (g.D.Desk.reading c.args.desk.now).side (g.D.Desk.reading c.open_inputs.new.desk).side c.args.inputs.now c.in-Err-NoMemory.ensures.asked (rw c.in-Err-NoMemory.field-0-is at c.in-Err-NoMemory.ensures.touches).inputs.how.slots)
 
 pub returns-in-Err-Failed-open_outputs-clause-frame : goal.returns-in-Err-Failed-open_outputs-clause-frame
 returns-in-Err-Failed-open_outputs-clause-frame g c = frame_outs g.D.Desk.tells c.args.inputs.now c.args.outputs.now _ (state (g.D.Desk.reading c.args.desk.now) (g.D.Desk.writing c.args.desk.now)) (state (g.D.Desk.reading c.open_inputs.new.desk) (g.D.Desk.writing c.open_inputs.new.desk)) (state (g.D.Desk.reading c.open_outputs.new.desk) (g.D.Desk.writing c.open_outputs.new.desk)) _ no_write
@@ -199,3 +201,24 @@ returns-clause-sealed g c = λ told. inr (
     (subst (λ (w : Writing). (texts : List (List ℕ)) → length texts ≡ length c.args.outputs.now → HoldFronts w (g.D.Desk.writing c.open_outputs.new.desk) 0 c.args.outputs.now texts)
     c.in-Ok-open_inputs.ensures.outputs (c.in-Err-NoMemory-open_outputs.ensures.fault.1 told))
     )
+
+pub returns-in_default-clause-said : goal.returns-in_default-clause-said
+returns-in_default-clause-said g c = λ is. absurd (no_memory is)
+
+pub returns-in-Err-Failed-clause-said : goal.returns-in-Err-Failed-clause-said
+returns-in-Err-Failed-clause-said g c = λ is. absurd (no_read is)
+
+pub returns-in-Err-NoMemory-clause-said : goal.returns-in-Err-NoMemory-clause-said
+returns-in-Err-NoMemory-clause-said g c = λ is. absurd (no_memory is)
+
+pub returns-in-Err-Failed-open_outputs-clause-said : goal.returns-in-Err-Failed-open_outputs-clause-said
+returns-in-Err-Failed-open_outputs-clause-said g c = λ is. absurd (no_write is)
+
+pub returns-clause-said : goal.returns-clause-said
+returns-clause-said g c = λ is. absurd (no_memory is)
+
+pub returns-in-Ok-open_outputs-clause-said : goal.returns-in-Ok-open_outputs-clause-said
+returns-in-Ok-open_outputs-clause-said g c = λ is.
+    let new = state (g.D.Desk.reading c.run_open.new.desk) (g.D.Desk.writing c.run_open.new.desk) in
+    said_of g.S.Stage.kind g.D.Desk.tells c.args.inputs.now c.args.outputs.now (state (g.D.Desk.reading c.args.desk.now) (g.D.Desk.writing c.args.desk.now)) new c.args.stage.now c.run_open.new.stage c.run_open.result
+    (let P : Start _ → Type 0 = λ s. Finishes g.S.Stage.kind g.D.Desk.tells s new c.run_open.new.stage c.run_open.result in subst P c.requires.1.1.1.1.1.1 c.run_open.ensures.finishes) is
