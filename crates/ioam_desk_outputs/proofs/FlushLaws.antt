@@ -1,18 +1,15 @@
 -- One output after another is written.
-use Rattle.std.proofs.Common.{◌≡◌, ◌≢◌, ℕ, ◌+◌, ◌<◌, ◌≤◌, Bool, Contains, List, [], ◌∷◌, ◌++◌, length, take, All, Option, get_or, set, refl, sym, ◌∙◌, ap, subst, inl, inr, append-nil, arith}
-use Rattle.std.specs.Prelude.{Result, Ok, Err, OnErr, OnOk, IfErr}
+use Rattle.std.proofs.Common.{◌≡◌, ◌≢◌, ℕ, ◌+◌, ◌<◌, ◌≤◌, Bool, List, [], ◌∷◌, ◌++◌, length, take, All, get_or, set, refl, sym, ◌∙◌, ap, subst, inl, inr, arith}
 use Rattle.std.proofs.lemmas.Bool.{cases_eq, cases_lt}
 use Rattle.std.proofs.lemmas.List.{take_more_set, take_all, get_or_default, get_or-set_same, get_or-set_other, length-set}
-use Rattle.std.proofs.lemmas.List.Elements.{All-nil, All-cons, All-set, All-push, All-same, All-weaker}
-use Rattle.ioam_desk.specs.Asked.{IsFaultOf}
-use Rattle.ioam_desk.specs.Desk.{Side, Reading, Writing, Held}
-use Rattle.ioam_desk.specs.Touches.{HowIn, HowOut, TouchesIn, Touches, state, writes_from, failing_out}
-use Rattle.ioam_desk.specs.declared.fault.DeskFault.{DeskFault}
-use Rattle.ioam_desk.specs.declared.fault.DeskFault.TheVariants.{Failed, NoMemory}
+use Rattle.std.proofs.lemmas.List.Elements.{All-set, All-push, All-same, All-weaker}
+use Rattle.ioam_desk.specs.Desk.{Writing}
+use Rattle.ioam_desk.specs.Touches.{State, Failing, Quiet, Touches, write_to, writes_from}
+use Rattle.ioam_desk.proofs.TouchesLaws.{touches-within, within-write}
 use Rattle.ioam_desk_outputs.specs.declared.output.Output.{Output}
 use Rattle.ioam_desk_outputs.specs.Told.{AreOpen, AreTold}
-use Rattle.ioam_desk_outputs.specs.Flush.{Moves, KeepsFew, KeepsTold, LeavesSome, WritesTheirs}
-use Rattle.ioam_desk_outputs.proofs.ToldLaws.{AreTold-moves}
+use Rattle.ioam_desk_outputs.specs.Flush.{Moves, KeepsFew, KeepsTold, LeavesSome}
+use Rattle.ioam_desk_outputs.proofs.ToldLaws.{AreTold-moves, slot_at}
 
 module _ (tells : Bool) (old new : Writing) (outputs : List Output) (i : ℕ) (d after : Output) where
   -- what was said since some start is still said
@@ -28,21 +25,6 @@ module _ (tells : Bool) (old new : Writing) (outputs : List Output) (i : ℕ) (d
       All-set (λ (output : Output). output.slot < new.side.slots) outputs i after (omega (arith, here, moves.slot, moves.slots))
       (All-weaker (λ (output : Output). output.slot < old.side.slots) (λ (output : Output). output.slot < new.side.slots)
       (λ output open_before. omega (arith, open_before, moves.slots)) outputs are_open)
-
--- a slot of no output is still one of none, and holds what it held
-abbrev pub KeepsOthers : Writing → Writing → List Output → List Output → Type 0
-KeepsOthers old new before after = (k : ℕ) → All (λ (output : Output). output.slot ≢ k) before
-    → All (λ (output : Output). output.slot ≢ k) after × (new.written k ≡ old.written k)
-
-pub others_more : (tells : Bool) (start old new : Writing) (first outputs : List Output) (i : ℕ) (d after : Output)
-    → i < length outputs → Moves tells old new (get_or outputs i d) after
-    → KeepsOthers start old first outputs → KeepsOthers start new first (set outputs i after)
-others_more tells start old new first outputs i d after inside moves keeps = λ k none.
-    let (still, same) = keeps k none in
-    let here : (get_or outputs i d).slot ≢ k = still i d inside in (
-      All-set (λ (output : Output). output.slot ≢ k) outputs i after (λ at. here (sym moves.slot ∙ at)) still,
-      moves.other_written k (λ at. here (sym at)) ∙ same,
-    )
 
 -- the outputs so far have too little
 pub few_more : (least : ℕ) (outputs : List Output) (i : ℕ) (after : Output) → i < length outputs → length after.gathered.items < least
@@ -132,60 +114,11 @@ leaves_some least start desk first outputs i d after inside full left are = reco
   left = λ e. subst (λ (output : Output). 0 < length output.gathered.items) (sym (get_or-set_same outputs i after e inside)) left;
 }
 
--- what holds whatever the answer is holds of an error
-pub on_err_so : {T E P : Type 0} (result : Result T E) → P → OnErr result P
-on_err_so (Ok value) so = tt
-on_err_so (Err fault) so = so
-
--- what a flush touches: the slots of the outputs, numbered from `slot` on
-none_below : (tells : Bool) (desk : Writing) (slot : ℕ) (names : List (List ℕ)) (outputs : List Output) (texts : List (List ℕ)) (k : ℕ)
-    → AreTold tells desk slot names outputs texts → k < slot → All (λ (output : Output). output.slot ≢ k) outputs
-none_below tells desk slot [] [] [] k told below = All-nil (λ (output : Output). output.slot ≢ k)
-none_below tells desk slot (name ∷ names) (output ∷ outputs) (text ∷ texts) k told below =
-    All-cons (λ (output : Output). output.slot ≢ k) output outputs (λ same. omega (arith, same, told.0.number, below))
-    (none_below tells desk (slot + 1) names outputs texts k told.1 (omega (arith, below)))
-none_below tells desk slot [] [] (text ∷ texts) k told below = absurd told
-none_below tells desk slot [] (output ∷ outputs) texts k told below = absurd told
-none_below tells desk slot (name ∷ names) [] texts k told below = absurd told
-none_below tells desk slot (name ∷ names) (output ∷ outputs) [] k told below = absurd told
-
-how_flushed : (old new : Side) (result : Result (Unit {0}) DeskFault) → OnOk result (new ≡ old) → new.asked ≡ old.asked → new.slots ≡ old.slots
-    → IfErr result (IsFaultOf old new) → HowOut (failing_out result) old new
-how_flushed old new (Ok _) same asked slots cause = record { faults = ap (λ (s : Side). s.faults) same; slots = omega (arith, slots, ap (λ (xs : List (List ℕ)). length xs) asked) }
-how_flushed old new (Err Failed) same asked slots cause = record { rose = cause; slots = omega (arith, slots) }
-how_flushed old new (Err NoMemory) same asked slots cause = record { faults = cause; slots = omega (arith, slots, ap (λ (xs : List (List ℕ)). length xs) asked) }
-
-how_unread : (s : Side) (result : Result (Unit {0}) DeskFault) → HowIn (failing_out result) s s
-how_unread s (Ok _) = record { faults = refl; slots = refl }
-how_unread s (Err Failed) = record { slots = refl }
-how_unread s (Err NoMemory) = record { faults = refl; slots = refl }
-
-pub flushed_touches : (tells : Bool) (old_in new_in : Reading) (old new : Writing) (outputs : List Output) (result : Result (Unit {0}) DeskFault)
-    → new_in ≡ old_in → OnOk result (new.side ≡ old.side) → new.side.asked ≡ old.side.asked → new.side.slots ≡ old.side.slots
-    → IfErr result (IsFaultOf old.side new.side) → WritesTheirs old new outputs
-    → (slot : ℕ) (names texts : List (List ℕ)) → AreTold tells old slot names outputs texts
-    → Touches tells (writes_from slot) (failing_out result) (state old_in old) (state new_in new)
-flushed_touches tells old_in new_in old new outputs result unread same asked slots cause theirs slot names texts told = record {
-  inputs = subst (λ (r : Reading). TouchesIn (λ k. ⊥) [] (failing_out result) old_in r) (sym unread) (record {
-    asked = [];
-    asks = sym (append-nil old_in.side.asked);
-    among = All-nil (Contains []);
-    how = how_unread old_in.side result;
-    left = λ k below away. refl;
-    ended = λ k below away. refl;
-  });
-  outputs = record {
-    asked = [];
-    asks = asked ∙ sym (append-nil old.side.asked);
-    among = All-nil (Contains []);
-    how = how_flushed old.side new.side result same asked slots cause;
-    written = λ is k below away. theirs.written k (none_below tells old slot names outputs texts k told (outside slot k away));
-    files = λ is name none. ap (λ (files : List ℕ → Option Held). files name) theirs.files;
-  };
-}
-  where
-    outside : (slot k : ℕ) → (slot ≤ k → ⊥) → k < slot
-    outside slot k away = elim (cases_lt k slot) [
-      | inl below ↦ below
-      | inr above ↦ absurd (away above)
-    ]
+-- one output more was written
+pub touches_more : (tells : Bool) (start mid new : State) (x : Failing) (outputs : List Output) (i : ℕ) (d : Output) (slot : ℕ) (names texts : List (List ℕ)) → i < length outputs
+    → AreTold tells mid.outputs slot names outputs texts → Touches tells (writes_from slot) Quiet start mid
+    → Touches tells (write_to (get_or outputs i d).slot) x mid new → Touches tells (writes_from slot) x start new
+touches_more tells start mid new x outputs i d slot names texts inside told first then =
+    let number = slot_at tells mid.outputs slot names outputs texts i d inside told in
+    touches-within tells (writes_from slot) (write_to (get_or outputs i d).slot) x start mid new
+    (within-write (get_or outputs i d).slot (writes_from slot) (omega (arith, number))) first then

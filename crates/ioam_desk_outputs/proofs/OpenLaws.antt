@@ -3,7 +3,7 @@ use Rattle.std.proofs.Common.{◌≡◌, ◌≢◌, ℕ, ◌+◌, ◌<◌, ◌�
 use Rattle.std.proofs.lemmas.Bool.{cases_eq}
 use Rattle.std.proofs.lemmas.List.{get_or_default, take_more, take-append-drop, length-take-le}
 use Rattle.std.proofs.lemmas.List.Elements.{All-push, All-same}
-use Rattle.ioam_desk.specs.Asked.{AsksFront, IsFaultOf}
+use Rattle.ioam_desk.specs.Asked.{AsksFront}
 use Rattle.ioam_desk.specs.Desk.{Side, Reading, Writing, Written, OpenIn, OpenOut, holds, opened_side, opened_each}
 use Rattle.ioam_desk.specs.declared.fault.DeskFault.{DeskFault}
 use Rattle.ioam_desk.specs.declared.fault.DeskFault.TheVariants.{Failed, NoMemory}
@@ -138,22 +138,14 @@ pub fails_more : (tells : Bool) (start mid new : Writing) (names : List (List �
     → mid.side ≡ opened_each start.side (take i names)
     → AreTold tells mid start.side.slots (take i names) outputs (unsaid (take i names))
     → OpenOut tells mid name (Err fault) new
-    → IsFaultOf start.side new.side fault
-    × (IsTrue tells → (texts : List (List ℕ)) → length texts ≡ length names → HoldFronts start new 0 names texts)
-fails_more tells start mid new names i outputs name Failed before told failed =
-    let faults : mid.side.faults ≡ start.side.faults = ap (λ (s : Side). s.faults) before in (
-      rw faults at failed.0.rose,
-      fronts_of tells start new names i outputs
-          (AreTold-unwritten tells mid new start.side.slots (take i names) outputs (unsaid (take i names))
-          (λ k behind. ap (λ (written : ℕ → List ℕ). written k) failed.1) failed.2 failed.0.slots told)
-          (failed.0.slots ∙ ap (λ (s : Side). s.slots) before),
-    )
-fails_more tells start mid new names i outputs name NoMemory before told same = (
-  ap (λ (desk : Writing). desk.side.faults) same ∙ ap (λ (s : Side). s.faults) before,
-  fronts_of tells start new names i outputs
-      (let P : Writing → Type 0 = λ desk. AreTold tells desk start.side.slots (take i names) outputs (unsaid (take i names)) in subst P (sym same) told)
-      (ap (λ (desk : Writing). desk.side.slots) same ∙ ap (λ (s : Side). s.slots) before),
-)
+    → IsTrue tells → (texts : List (List ℕ)) → length texts ≡ length names → HoldFronts start new 0 names texts
+fails_more tells start mid new names i outputs name Failed before told failed = fronts_of tells start new names i outputs
+    (AreTold-unwritten tells mid new start.side.slots (take i names) outputs (unsaid (take i names))
+    (λ k behind. ap (λ (written : ℕ → List ℕ). written k) failed.1) failed.2 failed.0.slots told)
+    (failed.0.slots ∙ ap (λ (s : Side). s.slots) before)
+fails_more tells start mid new names i outputs name NoMemory before told same = fronts_of tells start new names i outputs
+    (let P : Writing → Type 0 = λ desk. AreTold tells desk start.side.slots (take i names) outputs (unsaid (take i names)) in subst P (sym same) told)
+    (ap (λ (desk : Writing). desk.side.slots) same ∙ ap (λ (s : Side). s.slots) before)
 
 -- a name was opened, and no memory could be had behind it
 pub stops_more : (tells : Bool) (start mid new : Writing) (names : List (List ℕ)) (i : ℕ) (outputs : List Output) (name : List ℕ) (output : Output)
@@ -161,15 +153,12 @@ pub stops_more : (tells : Bool) (start mid new : Writing) (names : List (List �
     → OpenOut tells mid name (Ok output.slot) new → output.gathered.items ≡ []
     → mid.side ≡ opened_each start.side (take i names)
     → AreTold tells mid start.side.slots (take i names) outputs (unsaid (take i names))
-    → (new.side.faults ≡ start.side.faults)
-    × (IsTrue tells → (texts : List (List ℕ)) → length texts ≡ length names → HoldFronts start new 0 names texts)
+    → IsTrue tells → (texts : List (List ℕ)) → length texts ≡ length names → HoldFronts start new 0 names texts
 stops_more tells start mid new names i outputs name output apart inside is opened nothing before told =
-    let side : new.side ≡ opened_each start.side (take (i + 1) names) = side_more start.side mid.side new.side names i name inside is before opened.1 in (
-      ap (λ (s : Side). s.faults) side,
-      fronts_of tells start new names (i + 1) (outputs ++ output ∷ [])
-          (told_more tells start mid new names i outputs name output apart inside is opened nothing before told)
-          (ap (λ (s : Side). s.slots) side),
-    )
+    let side : new.side ≡ opened_each start.side (take (i + 1) names) = side_more start.side mid.side new.side names i name inside is before opened.1 in
+    fronts_of tells start new names (i + 1) (outputs ++ output ∷ [])
+    (told_more tells start mid new names i outputs name output apart inside is opened nothing before told)
+    (ap (λ (s : Side). s.slots) side)
 
 -- one input more is open and unread
 pub unread_more : (tells : Bool) (start mid new : State) (names : List (List ℕ)) (i slot : ℕ) (name : List ℕ) → i < length names → name ≡ get_or names i name

@@ -4,8 +4,7 @@ use Rattle.std.proofs.lemmas.List.Elements.{All-nil, All-cons, All-head, All-tai
 use Rattle.ioam_desk.specs.Desk.{Writing, Held}
 use Rattle.ioam_desk_outputs.specs.declared.output.Output.{Output}
 use Rattle.ioam_desk_outputs.specs.Told.{IsTold, AreTold, Adds, said_more, unsaid, AreOpen, GathersFew, GathersNothing}
-use Rattle.ioam_desk.specs.Kept.{WritesFrom}
-use Rattle.ioam_desk_outputs.specs.Flush.{Moves, WritesTheirs}
+use Rattle.ioam_desk_outputs.specs.Flush.{Moves}
 
 -- the slots of outputs that were told are open
 pub AreTold-open : (tells : Bool) (desk : Writing) (slot : ℕ) (names : List (List ℕ)) (outputs : List Output) (texts : List (List ℕ))
@@ -89,7 +88,7 @@ AreTold-unwritten tells old new slot (name ∷ names) [] texts same files slots 
 AreTold-unwritten tells old new slot (name ∷ names) (output ∷ outputs) [] same files slots told = absurd told
 
 -- the outputs' slots are numbered one behind the other
-slot_at : (tells : Bool) (desk : Writing) (slot : ℕ) (names : List (List ℕ)) (outputs : List Output) (texts : List (List ℕ)) (i : ℕ) (d : Output)
+pub slot_at : (tells : Bool) (desk : Writing) (slot : ℕ) (names : List (List ℕ)) (outputs : List Output) (texts : List (List ℕ)) (i : ℕ) (d : Output)
     → i < length outputs → AreTold tells desk slot names outputs texts → (get_or outputs i d).slot ≡ slot + i
 slot_at tells desk slot (name ∷ names) (output ∷ outputs) (text ∷ texts) zero d inside told = omega (arith, told.0.number)
 slot_at tells desk slot (name ∷ names) (output ∷ outputs) (text ∷ texts) (suc i) d inside told =
@@ -158,23 +157,3 @@ Adds-open desk [] [] (more ∷ added) adds are = absurd adds
 Adds-open desk [] (after ∷ new) added adds are = absurd adds
 Adds-open desk (before ∷ old) [] added adds are = absurd adds
 Adds-open desk (before ∷ old) (after ∷ new) [] adds are = absurd adds
-
--- the slots of outputs that were told are numbered from this one on
-AreTold-above : (tells : Bool) (desk : Writing) (slot : ℕ) (names : List (List ℕ)) (outputs : List Output) (texts : List (List ℕ))
-    → AreTold tells desk slot names outputs texts → (k : ℕ) → k < slot → All (λ (output : Output). output.slot ≢ k) outputs
-AreTold-above tells desk slot [] [] [] told k below = All-nil (λ (output : Output). output.slot ≢ k)
-AreTold-above tells desk slot (name ∷ names) (output ∷ outputs) (text ∷ texts) told k below =
-    All-cons (λ (output : Output). output.slot ≢ k) output outputs (λ same. absurd (omega (arith, same, told.0.number, below)))
-    (AreTold-above tells desk (slot + 1) names outputs texts told.1 k (omega (arith, below)))
-AreTold-above tells desk slot [] [] (text ∷ texts) told k below = absurd told
-AreTold-above tells desk slot [] (output ∷ outputs) texts told k below = absurd told
-AreTold-above tells desk slot (name ∷ names) [] texts told k below = absurd told
-AreTold-above tells desk slot (name ∷ names) (output ∷ outputs) [] told k below = absurd told
-
--- so a writing of theirs leaves the slots before these as they are
-pub told_writes : (tells : Bool) (old new : Writing) (slot : ℕ) (names : List (List ℕ)) (outputs : List Output) (texts : List (List ℕ))
-    → AreTold tells old slot names outputs texts → WritesTheirs old new outputs → WritesFrom slot old new
-told_writes tells old new slot names outputs texts told writes = record {
-  files = writes.files;
-  written = λ k below. writes.written k (AreTold-above tells old slot names outputs texts told k below);
-}

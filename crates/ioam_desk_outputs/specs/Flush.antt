@@ -17,11 +17,6 @@ abbrev pub KeepsTold : Bool → Writing → Writing → List Output → List Out
 KeepsTold tells old new before after = (slot : ℕ) (names texts : List (List ℕ))
     → AreTold tells old slot names before texts → AreTold tells new slot names after texts
 
--- no name was tied anew, and what was written to the slots of no output is as it was
-pub record WritesTheirs (old new : Writing) (outputs : List Output) : Type 0 where
-  pub files : new.files ≡ old.files
-  pub written : (k : ℕ) → All (λ output. output.slot ≢ k) outputs → new.written k ≡ old.written k
-
 -- an output for which fewer octets than these are gathered is as it was, and nothing was written to its slot
 pub record KeepsFew (least : ℕ) (old new : Writing) (before after : List Output) : Type 0 where
   pub gathered : (i : ℕ) (d : Output) → i < length before → length (get_or before i d).gathered.items < least → get_or after i d ≡ get_or before i d

@@ -1,9 +1,8 @@
 //! Writing of gathered octets.
-ghost use Rattle.std.specs.Prelude.{◌≡◌, ◌≤◌, ◌<◌, [], ℕ, List, All, IsTrue, IfErr, OnErr, OnOk, length};
-ghost use Rattle.ioam_desk.specs.Asked.{IsFaultOf};
-ghost use Rattle.ioam_desk.specs.Touches.{Touches, state, writes_from, failing_out};
-ghost use Rattle.ioam_desk_outputs.specs.Flush.{KeepsFew, KeepsTold, LeavesSome, Moves, WritesTheirs};
-ghost use Rattle.ioam_desk_outputs.specs.Held.{HoldTexts, HoldAllFronts};
+ghost use Rattle.std.specs.Prelude.{◌≡◌, ◌≤◌, ◌<◌, [], ℕ, List, All, IsTrue, OnErr, OnOk, length};
+ghost use Rattle.ioam_desk.specs.Touches.{Touches, state, write_to, writes_from, failing_out};
+ghost use Rattle.ioam_desk_outputs.specs.Flush.{KeepsFew, KeepsTold, LeavesSome, Moves};
+ghost use Rattle.ioam_desk_outputs.specs.Held.{HoldTexts};
 ghost use Rattle.ioam_desk_outputs.specs.Told.{AreTold, AreOpen, GathersFew, GathersNothing};
 
 use crate::output::Output;
@@ -19,10 +18,9 @@ fn flush<D: Desk>(desk: &mut D, output: &mut Output) -> Result<(), DeskFault>
     ensures moved { Moves D.tells (D.writing desk.old) (D.writing desk.new) output.old output.new }
     ensures all { OnOk result (output.new.gathered.items ≡ []) }
     ensures left { OnErr result (0 < length output.new.gathered.items) }
-    ensures same { OnOk result ((D.writing desk.new).side ≡ (D.writing desk.old).side) }
-    ensures asked { (D.writing desk.new).side.asked ≡ (D.writing desk.old).side.asked }
-    ensures cause { IfErr result (IsFaultOf (D.writing desk.old).side (D.writing desk.new).side) }
     ensures inputs { D.reading desk.new ≡ D.reading desk.old }
+    ensures touches { Touches D.tells (write_to output.old.slot) (failing_out result)
+        (state (D.reading desk.old) (D.writing desk.old)) (state (D.reading desk.new) (D.writing desk.new)) }
 {
     match write_all(desk, output.slot, &output.gathered) {
         Ok(()) => {
@@ -49,10 +47,9 @@ fn flush_from<D: Desk>(desk: &mut D, output: &mut Output, least: usize) -> Resul
     ensures few { OnOk result (length output.new.gathered.items < least) }
     ensures full { OnErr result (least ≤ length output.old.gathered.items) }
     ensures left { OnErr result (0 < length output.new.gathered.items) }
-    ensures same { OnOk result ((D.writing desk.new).side ≡ (D.writing desk.old).side) }
-    ensures asked { (D.writing desk.new).side.asked ≡ (D.writing desk.old).side.asked }
-    ensures cause { IfErr result (IsFaultOf (D.writing desk.old).side (D.writing desk.new).side) }
     ensures inputs { D.reading desk.new ≡ D.reading desk.old }
+    ensures touches { Touches D.tells (write_to output.old.slot) (failing_out result)
+        (state (D.reading desk.old) (D.writing desk.old)) (state (D.reading desk.new) (D.writing desk.new)) }
 {
     if output.gathered.len() < least {
         return Ok(());
@@ -68,16 +65,17 @@ fn flush_each<D: Desk>(desk: &mut D, outputs: &mut [Output], least: usize) -> Re
     ensures kept { KeepsFew least (D.writing desk.old) (D.writing desk.new) outputs.old outputs.new }
     ensures few { OnOk result (All (λ output. length output.gathered.items < least) outputs.new) }
     ensures left { OnErr result (LeavesSome least outputs.old outputs.new) }
-    ensures same { OnOk result ((D.writing desk.new).side ≡ (D.writing desk.old).side) }
-    ensures asked { (D.writing desk.new).side.asked ≡ (D.writing desk.old).side.asked }
-    ensures slots { (D.writing desk.new).side.slots ≡ (D.writing desk.old).side.slots }
     ensures open { AreOpen (D.writing desk.new) outputs.new }
-    ensures others { WritesTheirs (D.writing desk.old) (D.writing desk.new) outputs.old }
-    ensures cause { IfErr result (IsFaultOf (D.writing desk.old).side (D.writing desk.new).side) }
     ensures inputs { D.reading desk.new ≡ D.reading desk.old }
+    ensures touches { (slot : ℕ) (names texts : List (List ℕ)) → AreTold D.tells (D.writing desk.old) slot names outputs.old texts
+        → Touches D.tells (writes_from slot) (failing_out result)
+        (state (D.reading desk.old) (D.writing desk.old)) (state (D.reading desk.new) (D.writing desk.new)) }
 {
     'outputs: for output in outputs.iter_mut() {
-        flush_from(desk, output, least)?;
+        match flush_from(desk, output, least) {
+            Ok(()) => {}
+            Err(fault) => return Err(fault),
+        }
     }
     Ok(())
 }
@@ -91,18 +89,11 @@ pub fn flush_full<D: Desk>(desk: &mut D, outputs: &mut [Output]) -> Result<(), D
     requires { AreOpen (D.writing desk.old) outputs.old }
     ensures told { (slot : ℕ) (names texts : List (List ℕ)) → AreTold D.tells (D.writing desk.old) slot names outputs.old texts
         → AreTold D.tells (D.writing desk.new) slot names outputs.new texts }
-    ensures fronts { IsTrue D.tells → (slot : ℕ) (names texts : List (List ℕ))
-        → AreTold D.tells (D.writing desk.old) slot names outputs.old texts → HoldAllFronts (D.writing desk.new) names texts }
     ensures few { OnOk result (GathersFew outputs.new) }
     // A fault comes only where an output had a full piece, of which something is left.
     ensures left { OnErr result (LeavesSome 65536 outputs.old outputs.new) }
     ensures kept { KeepsFew 65536 (D.writing desk.old) (D.writing desk.new) outputs.old outputs.new }
-    ensures cause { IfErr result (IsFaultOf (D.writing desk.old).side (D.writing desk.new).side) }
-    ensures same { OnOk result ((D.writing desk.new).side ≡ (D.writing desk.old).side) }
-    ensures asked { (D.writing desk.new).side.asked ≡ (D.writing desk.old).side.asked }
-    ensures slots { (D.writing desk.new).side.slots ≡ (D.writing desk.old).side.slots }
     ensures open { AreOpen (D.writing desk.new) outputs.new }
-    ensures others { WritesTheirs (D.writing desk.old) (D.writing desk.new) outputs.old }
     ensures inputs { D.reading desk.new ≡ D.reading desk.old }
     ensures touches { (slot : ℕ) (names texts : List (List ℕ)) → AreTold D.tells (D.writing desk.old) slot names outputs.old texts
         → Touches D.tells (writes_from slot) (failing_out result)
@@ -120,17 +111,9 @@ pub fn finish<D: Desk>(desk: &mut D, outputs: &mut [Output]) -> Result<(), DeskF
         → AreTold D.tells (D.writing desk.old) slot names outputs.old texts → HoldTexts (D.writing desk.new) names texts) }
     ensures told { (slot : ℕ) (names texts : List (List ℕ)) → AreTold D.tells (D.writing desk.old) slot names outputs.old texts
         → AreTold D.tells (D.writing desk.new) slot names outputs.new texts }
-    ensures fronts { IsTrue D.tells → (slot : ℕ) (names texts : List (List ℕ))
-        → AreTold D.tells (D.writing desk.old) slot names outputs.old texts → HoldAllFronts (D.writing desk.new) names texts }
     ensures all { OnOk result (GathersNothing outputs.new) }
     // A fault comes only where something is left.
     ensures left { OnErr result (LeavesSome 1 outputs.old outputs.new) }
-    ensures cause { IfErr result (IsFaultOf (D.writing desk.old).side (D.writing desk.new).side) }
-    ensures same { OnOk result ((D.writing desk.new).side ≡ (D.writing desk.old).side) }
-    ensures asked { (D.writing desk.new).side.asked ≡ (D.writing desk.old).side.asked }
-    ensures slots { (D.writing desk.new).side.slots ≡ (D.writing desk.old).side.slots }
-    ensures open { AreOpen (D.writing desk.new) outputs.new }
-    ensures others { WritesTheirs (D.writing desk.old) (D.writing desk.new) outputs.old }
     ensures inputs { D.reading desk.new ≡ D.reading desk.old }
     ensures touches { (slot : ℕ) (names texts : List (List ℕ)) → AreTold D.tells (D.writing desk.old) slot names outputs.old texts
         → Touches D.tells (writes_from slot) (failing_out result)

@@ -1,8 +1,7 @@
 //! Opening of many outputs.
-ghost use Rattle.std.specs.Prelude.{◌≡◌, [], ℕ, List, IsTrue, IfErr, IfOk, OnOk, length};
-ghost use Rattle.ioam_desk.specs.Asked.{AsksFront, IsFaultOf};
+ghost use Rattle.std.specs.Prelude.{◌≡◌, [], ℕ, List, IsTrue, IfOk, OnErr, OnOk, length};
+ghost use Rattle.ioam_desk.specs.Asked.{AsksFront};
 ghost use Rattle.ioam_desk.specs.Desk.{opened_each};
-ghost use Rattle.ioam_desk.specs.Kept.{KeepsOutputs};
 ghost use Rattle.ioam_desk.specs.Touches.{Touches, state, opening, failing_out};
 ghost use Rattle.ioam_desk_outputs.specs.Held.{HoldFronts};
 ghost use Rattle.ioam_desk_outputs.specs.Names.{AreApart};
@@ -29,10 +28,8 @@ pub fn open_outputs<D: Desk>(
     ensures nothing { IfOk result (λ outputs. GathersNothing outputs.items) }
     ensures side { OnOk result ((D.writing desk.new).side ≡ opened_each (D.writing desk.old).side names.now) }
     ensures asked { AsksFront (D.writing desk.old).side.asked (D.writing desk.new).side.asked names.now }
-    ensures fault { IfErr result (λ fault. IsFaultOf (D.writing desk.old).side (D.writing desk.new).side fault
-        × (IsTrue D.tells → (texts : List (List ℕ)) → length texts ≡ length names.now
-        → HoldFronts (D.writing desk.old) (D.writing desk.new) 0 names.now texts)) }
-    ensures kept { IsTrue D.tells → KeepsOutputs (D.writing desk.old) (D.writing desk.new) }
+    ensures fronts { OnErr result (IsTrue D.tells → (texts : List (List ℕ)) → length texts ≡ length names.now
+        → HoldFronts (D.writing desk.old) (D.writing desk.new) 0 names.now texts) }
     ensures inputs { D.reading desk.new ≡ D.reading desk.old }
     ensures touches { Touches D.tells (opening [] names.now) (failing_out result)
         (state (D.reading desk.old) (D.writing desk.old)) (state (D.reading desk.new) (D.writing desk.new)) }

@@ -5,14 +5,13 @@ use Rattle.ioam_desk_outputs.specs.Told.{AreTold, GathersNothing, unsaid}
 use Rattle.ioam_desk_outputs.proofs.OpenLaws.{nothing_more, side_more, told_more, stops_more, fails_more, unopened, within_out, opened_none, asked_fault_out}
 use Rattle.ioam_desk.specs.Touches.{state, Quiet, opening, failing_out}
 use Rattle.ioam_desk.proofs.TouchesLaws.{touches-none, touches-within, touches-open_out}
-use Rattle.ioam_desk.proofs.KeptLaws.{KeepsOutputs-same, KeepsOutputs-then, KeepsOutputs-asked}
 use Rattle.ioam_desk_outputs.proofs.ToldLaws.{AreTold-open}
 use Rattle.ioam_desk_outputs.proofs.open.open_outputs.Goals as goal
 
-pub returns-in_default-clause-fault : goal.returns-in_default-clause-fault
-returns-in_default-clause-fault g c =
+pub returns-in_default-clause-fronts : goal.returns-in_default-clause-fronts
+returns-in_default-clause-fronts g c =
     let desk = g.D.Desk.writing c.args.desk.now in
-    (refl, λ tells texts size. unopened desk desk 0 c.args.names.now texts (omega arith) size)
+    λ tells texts size. unopened desk desk 0 c.args.names.now texts (omega arith) size
 
 pub names-preserved : goal.names-preserved
 names-preserved g c =
@@ -32,8 +31,6 @@ names-preserved g c =
       nothing = nothing_more c.names.outputs.items c.push.new.self.items output c.names.invariant.nothing c.new-gathered.ensures.items c.in-Ok-push.ensures.items;
       side = side_more start.side (g.D.Desk.writing c.names.desk).side new.side names i name inside is
           c.names.invariant.side c.in-Ok-open_out.ensures.opened.1;
-      kept = λ told. KeepsOutputs-then start (g.D.Desk.writing c.names.desk) new (c.names.invariant.kept told)
-          (KeepsOutputs-asked g.D.Desk.tells (g.D.Desk.writing c.names.desk) new name (Ok c.in-Ok-open_out.slot) c.in-Ok-open_out.ensures.opened told);
       inputs = c.open_out.ensures.inputs ∙ c.names.invariant.inputs;
       touches = touches-within g.D.Desk.tells (opening [] names) (opening [] _) Quiet (state (g.D.Desk.reading c.args.desk.now) start)
           (state (g.D.Desk.reading c.names.desk) (g.D.Desk.writing c.names.desk)) (state (g.D.Desk.reading c.open_out.new.self) new)
@@ -42,19 +39,8 @@ names-preserved g c =
           name (Ok c.in-Ok-open_out.slot) c.in-Ok-open_out.ensures.opened c.open_out.ensures.inputs);
     }
 
-pub returns-in_default-clause-kept : goal.returns-in_default-clause-kept
-returns-in_default-clause-kept g c = λ told. KeepsOutputs-same (g.D.Desk.writing c.args.desk.now) _ refl
-
-pub returns-in-Err-push-clause-kept : goal.returns-in-Err-push-clause-kept
-returns-in-Err-push-clause-kept g c = λ told. KeepsOutputs-then (g.D.Desk.writing c.args.desk.now) (g.D.Desk.writing c.names.desk) (g.D.Desk.writing c.open_out.new.self) (c.names.invariant.kept told)
-    (KeepsOutputs-asked g.D.Desk.tells (g.D.Desk.writing c.names.desk) (g.D.Desk.writing c.open_out.new.self) c.text.result.now (Ok c.in-Ok-open_out.slot) c.in-Ok-open_out.ensures.opened told)
-
-pub returns-in-Err-clause-kept : goal.returns-in-Err-clause-kept
-returns-in-Err-clause-kept g c = λ told. KeepsOutputs-then (g.D.Desk.writing c.args.desk.now) (g.D.Desk.writing c.names.desk) (g.D.Desk.writing c.open_out.new.self) (c.names.invariant.kept told)
-    (KeepsOutputs-asked g.D.Desk.tells (g.D.Desk.writing c.names.desk) (g.D.Desk.writing c.open_out.new.self) c.text.result.now (Err c.in-Err.fault) c.in-Err.ensures.opened told)
-
-pub returns-in-Err-push-clause-fault : goal.returns-in-Err-push-clause-fault
-returns-in-Err-push-clause-fault g c =
+pub returns-in-Err-push-clause-fronts : goal.returns-in-Err-push-clause-fronts
+returns-in-Err-push-clause-fronts g c =
     let names = c.args.names.now in
     let name = c.text.result.now in
     let i = c.names.name-index in
@@ -65,8 +51,8 @@ returns-in-Err-push-clause-fault g c =
     names i c.names.outputs.items name output c.requires inside is
     c.in-Ok-open_out.ensures.opened c.new-gathered.ensures.items c.names.invariant.side c.names.invariant.told
 
-pub returns-in-Err-clause-fault : goal.returns-in-Err-clause-fault
-returns-in-Err-clause-fault g c = fails_more _ (g.D.Desk.writing c.args.desk.now) (g.D.Desk.writing c.names.desk) _ c.args.names.now c.names.name-index _ _ _
+pub returns-in-Err-clause-fronts : goal.returns-in-Err-clause-fronts
+returns-in-Err-clause-fronts g c = fails_more _ (g.D.Desk.writing c.args.desk.now) (g.D.Desk.writing c.names.desk) _ c.args.names.now c.names.name-index _ _ _
     c.names.invariant.side c.names.invariant.told c.in-Err.ensures.opened
 
 pub returns-clause-open : goal.returns-clause-open
@@ -99,7 +85,6 @@ names-init g c =
       told = subst (λ (outputs : List Output). AreTold g.D.Desk.tells desk desk.side.slots [] outputs []) (sym c.in-Ok.ensures.items) tt;
       nothing = subst (λ (outputs : List Output). GathersNothing outputs) (sym c.in-Ok.ensures.items) (All-nil (λ (output : Output). output.gathered.items ≡ []));
       side = opened_none desk.side;
-      kept = λ told. KeepsOutputs-same desk desk refl;
       inputs = refl;
       touches = touches-none g.D.Desk.tells (opening [] c.args.names.now) (state (g.D.Desk.reading c.args.desk.now) desk);
     }

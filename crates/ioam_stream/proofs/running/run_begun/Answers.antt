@@ -43,7 +43,7 @@ returns-in-Err-Failed-open_outputs-clause-leaves g c = λ told. (
   unopened_some g.S.Stage.kind g.D.Desk.tells c.args.inputs.now c.args.outputs.now g.met.S.Stage.lawful (state (g.D.Desk.reading c.args.desk.now) (g.D.Desk.writing c.args.desk.now)) (state (g.D.Desk.reading c.open_outputs.new.desk) (g.D.Desk.writing c.open_outputs.new.desk)) c.args.stage.now _
       c.requires.1.1.1.1.1.0 c.requires.1.1.1.1.0
       (subst (λ (w : Writing). (texts : List (List ℕ)) → length texts ≡ length c.args.outputs.now → HoldFronts w (g.D.Desk.writing c.open_outputs.new.desk) 0 c.args.outputs.now texts)
-      c.in-Ok-open_inputs.ensures.outputs (c.in-Err-Failed-open_outputs.ensures.fault.1 told)),
+      c.in-Ok-open_inputs.ensures.outputs (c.in-Err-Failed-open_outputs.ensures.fronts told)),
 )
 
 pub returns-in-Ok-open_outputs-clause-leaves : goal.returns-in-Ok-open_outputs-clause-leaves
@@ -130,7 +130,7 @@ returns-clause-leaves g c = λ told. inr (
   unopened_some g.S.Stage.kind g.D.Desk.tells c.args.inputs.now c.args.outputs.now g.met.S.Stage.lawful (state (g.D.Desk.reading c.args.desk.now) (g.D.Desk.writing c.args.desk.now)) (state (g.D.Desk.reading c.open_outputs.new.desk) (g.D.Desk.writing c.open_outputs.new.desk)) c.args.stage.now _
       c.requires.1.1.1.1.1.0 c.requires.1.1.1.1.0
       (subst (λ (w : Writing). (texts : List (List ℕ)) → length texts ≡ length c.args.outputs.now → HoldFronts w (g.D.Desk.writing c.open_outputs.new.desk) 0 c.args.outputs.now texts)
-      c.in-Ok-open_inputs.ensures.outputs (c.in-Err-NoMemory-open_outputs.ensures.fault.1 told)),
+      c.in-Ok-open_inputs.ensures.outputs (c.in-Err-NoMemory-open_outputs.ensures.fronts told)),
 )
 
 pub returns-in_default-clause-marks : goal.returns-in_default-clause-marks
@@ -192,14 +192,14 @@ returns-in-Err-Failed-open_outputs-clause-sealed g c = λ told.
     unopened_less g.S.Stage.kind g.D.Desk.tells c.args.inputs.now c.args.outputs.now g.met.S.Stage.lawful (state (g.D.Desk.reading c.args.desk.now) (g.D.Desk.writing c.args.desk.now)) (state (g.D.Desk.reading c.open_outputs.new.desk) (g.D.Desk.writing c.open_outputs.new.desk)) c.args.stage.now
     c.requires.1.1.1.1.1.0 c.requires.1.1.1.1.0
     (subst (λ (w : Writing). (texts : List (List ℕ)) → length texts ≡ length c.args.outputs.now → HoldFronts w (g.D.Desk.writing c.open_outputs.new.desk) 0 c.args.outputs.now texts)
-    c.in-Ok-open_inputs.ensures.outputs (c.in-Err-Failed-open_outputs.ensures.fault.1 told))
+    c.in-Ok-open_inputs.ensures.outputs (c.in-Err-Failed-open_outputs.ensures.fronts told))
 
 pub returns-clause-sealed : goal.returns-clause-sealed
 returns-clause-sealed g c = λ told. inr (
     unopened_less g.S.Stage.kind g.D.Desk.tells c.args.inputs.now c.args.outputs.now g.met.S.Stage.lawful (state (g.D.Desk.reading c.args.desk.now) (g.D.Desk.writing c.args.desk.now)) (state (g.D.Desk.reading c.open_outputs.new.desk) (g.D.Desk.writing c.open_outputs.new.desk)) c.args.stage.now
     c.requires.1.1.1.1.1.0 c.requires.1.1.1.1.0
     (subst (λ (w : Writing). (texts : List (List ℕ)) → length texts ≡ length c.args.outputs.now → HoldFronts w (g.D.Desk.writing c.open_outputs.new.desk) 0 c.args.outputs.now texts)
-    c.in-Ok-open_inputs.ensures.outputs (c.in-Err-NoMemory-open_outputs.ensures.fault.1 told))
+    c.in-Ok-open_inputs.ensures.outputs (c.in-Err-NoMemory-open_outputs.ensures.fronts told))
     )
 
 pub returns-in_default-clause-said : goal.returns-in_default-clause-said
