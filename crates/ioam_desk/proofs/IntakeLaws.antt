@@ -1,9 +1,9 @@
 -- Laws of files that are read in pieces for what takes their octets.
-use Rattle.std.proofs.Common.{◌≡◌, ℕ, ◌+◌, ◌<◌, ◌≤◌, ◌⊎◌, Bool, true, false, IsTrue, IsSomeAnd, List, [], ◌∷◌, ◌++◌, length, length-append, length-take-le, take, Option, Some, Ok, Err, refl, sym, ap, ◌∙◌, subst, inl, inr, append-nil, append_assoc, arith}
+use Rattle.std.proofs.Common.{◌≡◌, ℕ, ◌+◌, ◌≤◌, Bool, true, false, IsTrue, IsSomeAnd, List, [], ◌++◌, length, length-append, length-take-le, take, Option, Some, Ok, Err, refl, sym, ap, ◌∙◌, subst, inl, inr, append-nil, append_assoc, arith}
 use Rattle.std.specs.Prelude.{MatchResult, Result}
 use Rattle.ioam_desk.specs.Desk.{Reading, Side, Rose, Fails, OpenIn, OpensInput, ReadInto}
 use Rattle.ioam_desk.specs.Intake.{FailsFile, FailsSlot, HandsFew, ReadsFew, TakesFile, TakesSlot}
-use Rattle.ioam_desk.specs.Whole.{Hands, KeepsSlots}
+use Rattle.ioam_desk.specs.Whole.{Hands}
 use Rattle.ioam_desk.specs.declared.fault.DeskFault.{DeskFault}
 use Rattle.ioam_desk.specs.declared.fault.DeskFault.TheVariants.{Failed, NoMemory}
 

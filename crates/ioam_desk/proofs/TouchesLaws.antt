@@ -1,9 +1,9 @@
 -- Laws of what calls touch: nothing at all, one call after another, a larger footprint, and the calls of a desk.
 use Rattle.std.proofs.Common.{◌≡◌, ℕ, ◌+◌, ◌<◌, ◌≤◌, Bool, IsTrue, List, [], ◌∷◌, ◌++◌, length, All, Contains, Option, Result, Ok, Err, refl, sym, ◌∙◌, ap, subst, append-nil, append_assoc, length-append, arith}
 use Rattle.std.proofs.lemmas.List.Elements.{All-nil, All-cons, All-weaker, All-append, Contains-append_left, Contains-append_right}
-use Rattle.ioam_desk.specs.Desk.{Side, Reading, Writing, Held, FailsToOpen, Fails, opened_side, holds, OpenIn, ReadInto, OpenOut, Grows, WriteFrom}
+use Rattle.ioam_desk.specs.Desk.{Side, Reading, Writing, Held, FailsToOpen, Fails, opened_side, holds, OpenIn, ReadInto, OpenOut, Grows}
 use Rattle.ioam_desk.specs.Kept.{KeepsInputs, KeepsOutputs}
-use Rattle.ioam_desk.specs.Touches.{State, AnswersFailing, Footprint, read_of, write_to, opening, Failing, Quiet, Input, Output, Read, Late, failing_open, failing_read, failing_out, failing_write, after_read, IsFine, Broke, Loose, HowIn, HowOut, TouchesIn, TouchesOut, Touches, Within}
+use Rattle.ioam_desk.specs.Touches.{State, Footprint, read_of, write_to, opening, Failing, Quiet, Input, Output, Read, Late, failing_open, failing_read, failing_out, failing_write, after_read, IsFine, Broke, Loose, HowIn, HowOut, TouchesIn, TouchesOut, Touches, Within}
 use Rattle.ioam_desk.specs.declared.fault.DeskFault.{DeskFault}
 use Rattle.ioam_desk.specs.Whole.{WritesSide}
 use Rattle.ioam_desk.specs.declared.fault.DeskFault.TheVariants.{Failed, NoMemory}
@@ -14,9 +14,6 @@ use Rattle.ioam_desk.specs.declared.fault.WriteAll.TheVariants as write
 
 fine-same : (s : Side) → IsFine s s
 fine-same s = record { faults = refl; slots = refl }
-
-how_in-same : (s : Side) → HowIn Quiet s s
-how_in-same s = fine-same s
 
 in-same : (reads : ℕ → Type 0) (names : List (List ℕ)) (x : Failing) (s : Reading) → HowIn x s.side s.side → TouchesIn reads names x s s
 in-same reads names x s how = record {
@@ -191,13 +188,6 @@ touches-quiet_late tells f old new t = record {
   outputs = record { asked = t.outputs.asked; asks = t.outputs.asks; among = t.outputs.among; how = t.outputs.how; written = t.outputs.written; files = t.outputs.files };
 }
 
--- memory ran out after a read that failed
-pub touches-late : (tells : Bool) (f : Footprint) (old new : State) → Touches tells f Read old new → Touches tells f Late old new
-touches-late tells f old new t = record {
-  inputs = record { asked = t.inputs.asked; asks = t.inputs.asks; among = t.inputs.among; how = record { slots = t.inputs.how.slots }; left = t.inputs.left; ended = t.inputs.ended };
-  outputs = record { asked = t.outputs.asked; asks = t.outputs.asks; among = t.outputs.among; how = t.outputs.how; written = t.outputs.written; files = t.outputs.files };
-}
-
 -- ---- the calls of a desk
 
 -- only inputs were touched, or only outputs
@@ -306,27 +296,6 @@ touches-open_out tells old new name (Err Failed) failed kept = only_out tells (o
 touches-open_out tells old new name (Err NoMemory) same kept = only_out tells (opening [] (name ∷ [])) Quiet old new (fine-same old.inputs.side) kept
     (out_still tells (λ k. ⊥) (name ∷ []) old.outputs new.outputs same)
 
-pub touches-write : (tells : Bool) (old new : State) (slot : ℕ) (from : List ℕ) (result : Result ℕ DeskFault) → WriteFrom tells old.outputs slot from result new.outputs → new.inputs ≡ old.inputs
-    → Touches tells (write_to slot) (failing_out result) old new
-touches-write tells old new slot from (Ok count) write kept = only_out tells (write_to slot) Quiet old new (fine-same old.inputs.side) kept (record {
-  asked = [];
-  asks = asked_none old.outputs.side new.outputs.side (ap (λ (s : Side). s.asked) write.2);
-  among = All-nil (Contains []);
-  how = subst (λ (s : Side). IsFine old.outputs.side s) (sym write.2) (fine-same old.outputs.side);
-  written = λ told k below away. write.3.other_written k away;
-  files = λ told name outside. ap (λ (files : List ℕ → Option Held). files name) write.3.files;
-})
-touches-write tells old new slot from (Err Failed) failed kept = only_out tells (write_to slot) Output old new (record { slots = refl }) kept (record {
-  asked = [];
-  asks = asked_none old.outputs.side new.outputs.side failed.0.asked;
-  among = All-nil (Contains []);
-  how = fails-broke old.outputs.side new.outputs.side failed.0;
-  written = λ told k below away. ap (λ (written : ℕ → List ℕ). written k) failed.1;
-  files = λ told name outside. ap (λ (files : List ℕ → Option Held). files name) failed.2;
-})
-touches-write tells old new slot from (Err NoMemory) same kept = only_out tells (write_to slot) Quiet old new (fine-same old.inputs.side) kept
-    (out_still tells (λ k. k ≡ slot) [] old.outputs new.outputs same)
-
 -- one slot grew
 grown-out : (tells : Bool) (x : Failing) (old new : Writing) (slot : ℕ) (octets : List ℕ) → new.side.asked ≡ old.side.asked → HowOut x old.side new.side
     → Grows tells old new slot octets → TouchesOut tells (λ k. k ≡ slot) [] x old new
@@ -381,23 +350,3 @@ pub touches-unasked_out : (tells : Bool) (f : Footprint) (x : Failing) (old new 
 touches-unasked_out tells f x old new none t =
     let empty = no_names t.outputs.asked (subst (λ (names : List (List ℕ)). All (Contains names) t.outputs.asked) none t.outputs.among) in
     t.outputs.asks ∙ ap (λ (asked : List (List ℕ)). old.outputs.side.asked ++ asked) empty ∙ append-nil old.outputs.side.asked
-
--- what failed is answered
-pub touches-failing : (tells : Bool) (f : Footprint) (x : Failing) (old new : State) → Touches tells f x old new → AnswersFailing x old new
-touches-failing tells f Quiet old new t = record { opens = λ other. t.inputs.how.slots; reads = λ quiet. t.inputs.how.faults; writes = λ other. t.outputs.how.faults }
-touches-failing tells f Input old new t = record { opens = λ other. absurd (other refl); reads = λ quiet. absurd (input_quiet quiet); writes = λ other. t.outputs.how.faults }
-  where
-    input_quiet : Input ≡ Quiet → ⊥
-    input_quiet same = cc
-touches-failing tells f Read old new t = record { opens = λ other. t.inputs.how.slots; reads = λ quiet. absurd (read_quiet quiet); writes = λ other. t.outputs.how.faults }
-  where
-    read_quiet : Read ≡ Quiet → ⊥
-    read_quiet same = cc
-touches-failing tells f Output old new t = record { opens = λ other. t.inputs.how.slots; reads = λ quiet. absurd (output_quiet quiet); writes = λ other. absurd (other refl) }
-  where
-    output_quiet : Output ≡ Quiet → ⊥
-    output_quiet same = cc
-touches-failing tells f Late old new t = record { opens = λ other. t.inputs.how.slots; reads = λ quiet. absurd (late_quiet quiet); writes = λ other. t.outputs.how.faults }
-  where
-    late_quiet : Late ≡ Quiet → ⊥
-    late_quiet same = cc

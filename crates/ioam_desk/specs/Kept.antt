@@ -15,8 +15,3 @@ pub record KeepsOutputs (old new : Writing) : Type 0 where
   pub asks : new.side.asked ≡ old.side.asked ++ asked
   pub written : (k : ℕ) → k < old.side.slots → new.written k ≡ old.written k
   pub files : (name : List ℕ) → (Contains asked name → ⊥) → new.files name ≡ old.files name
-
--- no name was tied anew, and only slots from this number on were written to
-pub record WritesFrom (base : ℕ) (old new : Writing) : Type 0 where
-  pub files : new.files ≡ old.files
-  pub written : (k : ℕ) → k < base → new.written k ≡ old.written k

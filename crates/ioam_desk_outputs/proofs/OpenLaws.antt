@@ -191,15 +191,6 @@ unended_more tells start mid new names i slot name inside before opened unended 
       | inr other ↦ opened.other_ended (start.inputs.side.slots + j) (λ at. other (omega (arith, at, number))) ∙ unended j (omega (arith, below, grown, slots, other))
     ]
 
--- an input could not be opened
-pub unread_fault : (tells : Bool) (start mid new : State) (names : List (List ℕ)) (name : List ℕ) (fault : DeskFault)
-    → OpenIn tells mid.inputs (holds mid.outputs name) name (Err fault) new.inputs
-    → AreUnread tells start.inputs mid.inputs start.outputs names → AreUnread tells start.inputs new.inputs start.outputs names
-unread_fault tells start mid new names name Failed failed unread = λ told j below.
-    unread told j (omega (arith, below, failed.0.slots)) ∙ ap (λ (left : ℕ → List ℕ). Some (left (start.inputs.side.slots + j))) (sym failed.1)
-unread_fault tells start mid new names name NoMemory same unread = λ told j below.
-    unread told j (omega (arith, below, ap (λ (r : Reading). r.side.slots) same)) ∙ ap (λ (r : Reading). Some (r.left (start.inputs.side.slots + j))) (sym same)
-
 -- the slots are numbered one after another
 pub slots_more : (base : ℕ) (names : List (List ℕ)) (i slot : ℕ) (slots later : List ℕ) → i < length names → slot ≡ base + i → later ≡ slots ++ slot ∷ []
     → AreSlots base (length (take i names)) slots → AreSlots base (length (take (i + 1) names)) later

@@ -1,5 +1,5 @@
 -- Laws of what was said to outputs.
-use Rattle.std.proofs.Common.{◌≡◌, ◌≢◌, ℕ, ◌+◌, ◌<◌, ◌≤◌, Bool, All, List, [], ◌∷◌, ◌++◌, length, Option, get_or, set, refl, sym, ◌∙◌, ap, append_assoc, length-append, arith, zero, suc}
+use Rattle.std.proofs.Common.{◌≡◌, ℕ, ◌+◌, ◌<◌, ◌≤◌, Bool, All, List, [], ◌∷◌, ◌++◌, length, Option, get_or, set, refl, sym, ◌∙◌, ap, append_assoc, length-append, arith, zero, suc}
 use Rattle.std.proofs.lemmas.List.Elements.{All-nil, All-cons, All-head, All-tail, All-weaker}
 use Rattle.ioam_desk.specs.Desk.{Writing, Held}
 use Rattle.ioam_desk_outputs.specs.declared.output.Output.{Output}
