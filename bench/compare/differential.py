@@ -2,7 +2,7 @@
 """Compares `ioam run`, `collect` and `bulk` with a model of them over random
 inputs: the line, the status and each output, octet for octet, with 1, 3 and 64
 workers; and over what a run left `audit` of two taps, messages of the records
-and back, and parts of pieces of them, merged along a random tree. The model (model/run_*.py and what they stand on) was written in
+and back, and parts of pieces of them, merged along a random tree. The model (reference/run_*.py and what they stand on) was written in
 another language and from the standards' rules alone.
 
     bench/compare/differential.py [COUNT] [PROGRAM] [SEED]
@@ -18,7 +18,7 @@ import sys
 import tempfile
 
 HERE = os.path.dirname(os.path.abspath(__file__))
-sys.path.insert(0, os.path.join(HERE, "model"))
+sys.path.insert(0, os.path.join(HERE, "..", "..", "reference"))
 
 import faults_answers  # noqa: E402
 import faults_reach  # noqa: E402

@@ -10,7 +10,7 @@ alone, and words of no form: captures of both forms with each of their faults, p
 kind, sound and broken, pairs of captures before and behind some node, export records, messages and parts with each of their
 faults, domain files with faults of each table, key and reason. Of each the line, the status and every file are compared, octet for octet, and that no other file was made. Where something differs it
 is said and the input's folder is kept; then the status is 1. At the end stands how often each answer, reason and branch of
-the second writing (bench/compare/model/) was reached.
+the second writing (reference/) was reached.
 """
 import os
 import random
@@ -20,7 +20,7 @@ import sys
 import tempfile
 
 sys.dont_write_bytecode = True
-sys.path.insert(0, os.path.join(os.path.dirname(os.path.abspath(__file__)), "model"))
+sys.path.insert(0, os.path.join(os.path.dirname(os.path.abspath(__file__)), "..", "..", "reference"))
 
 import audit_rows  # noqa: E402
 import faults_reach  # noqa: E402

@@ -1,11 +1,11 @@
 #!/usr/bin/env python3
-"""Runs the commands that README.md, docs/, examples/, tools/ and the manual page show, and compares what they print with what is shown
-there; those of the manual page are to print `done`.
+"""Runs the commands that README.md, docs/, examples/, reference/, tools/ and the manual page show, and compares what they print with what
+is shown there; those of the manual page are to print `done`.
 
     bench/compare/documented.py [PROGRAM]
 
 PROGRAM is what `./ioam` in the documents stands for: this repository's `ioam` where none is given. Each
-document is played in a new folder with a copy of examples/ and tools/. A line for each command: `ok` or `DIFFERS`, and
+document is played in a new folder with a copy of examples/, reference/ and tools/. A line for each command: `ok` or `DIFFERS`, and
 then what was wanted and what came. Ends with status 1 where one differs. Commands that print nothing are shown
 without lines behind them; other commands of the documents (`rt ci`, say) stand without `$` and aren't run. A command is left out
 if a tool that it needs is missing (gnuplot, for those that name a picture), and then whatever follows it in its section.
@@ -69,7 +69,7 @@ def play(path, program):
     commands = shown_in_manual(path) if path.endswith(".1") else shown(path)
     differ = 0
     with tempfile.TemporaryDirectory() as room:
-        for folder in ("examples", "tools"):
+        for folder in ("examples", "reference", "tools"):
             shutil.copytree(os.path.join(TOP, folder), os.path.join(room, folder))
         os.symlink(program, os.path.join(room, "ioam"))
         left = None
@@ -97,7 +97,7 @@ def main():
     documents += [os.path.join(docs, name) for name in sorted(os.listdir(docs)) if name.endswith((".md", ".1"))]
     examples = os.path.join(TOP, "examples")
     folders = (os.path.join(examples, name, "README.md") for name in sorted(os.listdir(examples)))
-    documents += [path for path in folders if os.path.exists(path)] + [os.path.join(TOP, "tools", "README.md")]
+    documents += [path for path in folders if os.path.exists(path)] + [os.path.join(TOP, name, "README.md") for name in ("reference", "tools")]
     played = [play(path, program) for path in documents]
     cases, differ = (sum(column) for column in zip(*played))
     print(f"{cases} commands, {differ} differ")

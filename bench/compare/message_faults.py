@@ -14,7 +14,7 @@ import tempfile
 
 from repository import TOP, program_at
 
-sys.path.insert(0, os.path.join(TOP, "bench", "compare", "model"))
+sys.path.insert(0, os.path.join(TOP, "reference"))
 from messages_rows import FIRST, PLAIN, SECOND, data, message_octets, set_octets  # noqa: E402
 from messages_ipfix import data_octets, template_octets  # noqa: E402
 

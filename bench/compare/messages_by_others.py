@@ -22,7 +22,7 @@ FIELDS = (("Namespace", 1, "unsigned16", 2), ("Flags", 2, "unsigned8", 1), ("Ext
 
 def make(count, seed):
     """Records of both versions, with and without each number, of many types."""
-    sys.path.insert(0, os.path.join(os.path.dirname(os.path.abspath(__file__)), "model"))
+    sys.path.insert(0, os.path.join(os.path.dirname(os.path.abspath(__file__)), "..", "..", "reference"))
     from messages_random import sound_records
     sys.stdout.buffer.write(b"".join(sound_records(random.Random(seed), int(count))))
 

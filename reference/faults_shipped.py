@@ -4,7 +4,7 @@ import os
 
 from foreign_random import some
 
-EXAMPLES = os.path.join(os.path.dirname(os.path.abspath(__file__)), "..", "..", "..", "examples")
+EXAMPLES = os.path.join(os.path.dirname(os.path.abspath(__file__)), "..", "examples")
 CAPTURES = ("linux-ioam.pcap", "live.pcapng", "two-links.pcapng", "reasons.pcap", "three/west.pcap")
 DOMAINS = ("one-node", "one-node", "three", "two-traces", "boundary")
 WAYS = {"one-node": (b"three", b"two-three"), "three": (b"b", b"ab"), "two-traces": (b"c", b"bc"), "boundary": (b"b", b"ab")}
