@@ -1,18 +1,13 @@
 -- What is counted of items, with one item more.
-use Rattle.std.proofs.Common.{◌≡◌, ℕ, ◌+◌, ◌<◌, ◌≤◌, ◌^◌, min, ◌⊎◌, inl, inr, Bool, true, false, cond, List, [], ◌∷◌, ◌++◌, length, drop, Option, Some, None, refl, sym, ◌∙◌, ap, arith}
+use Rattle.std.proofs.Common.{◌≡◌, ℕ, zero, suc, ◌+◌, ◌<◌, ◌≤◌, ◌^◌, min, Bool, true, false, cond, List, [], ◌∷◌, ◌++◌, length, drop, Option, Some, None, refl, ◌∙◌, ap, arith}
 use mir.Val.{bool_byte}
 use Rattle.std.specs.List.{cons_option, count_by, filter_map}
 use Rattle.std.specs.Option.{option_to_list}
-use Rattle.std.specs.Prelude.{nat_lt}
-use Rattle.std.proofs.lemmas.Bool.{cases_lt}
-use Rattle.std.proofs.lemmas.Bool.Decides.{nat_tests}
+use Rattle.std.proofs.lemmas.List.{drop_all}
+use Rattle.std.proofs.lemmas.List.Elements.{filter_map-append}
 use Rattle.std.proofs.lemmas.List.Sums.{count_by-le-length, sum_by_push}
 use Rattle.ioam_delay_counts.specs.Keys.{steps_before}
 use Rattle.ioam_delay_counts.specs.declared.keys.Step.{Step}
-
-cons_append : {Y : Type 0} (o : Option Y) (xs ys : List Y) → cons_option o xs ++ ys ≡ cons_option o (xs ++ ys)
-cons_append None xs ys = refl
-cons_append (Some x) xs ys = refl
 
 cons_last : {Y : Type 0} (o : Option Y) → cons_option o [] ≡ option_to_list o
 cons_last None = refl
@@ -20,8 +15,7 @@ cons_last (Some x) = refl
 
 -- what is kept of one more
 pub kept_more : {X Y : Type 0} (h : X → Option Y) (xs : List X) (x : X) → filter_map h (xs ++ x ∷ []) ≡ filter_map h xs ++ option_to_list (h x)
-kept_more h [] x = cons_last (h x)
-kept_more h (y ∷ ys) x = ap (cons_option (h y)) (kept_more h ys x) ∙ sym (cons_append (h y) (filter_map h ys) (option_to_list (h x)))
+kept_more h xs x = filter_map-append h xs (x ∷ []) ∙ ap (λ ys. filter_map h xs ++ ys) (cons_last (h x))
 
 cons_length : {Y : Type 0} (o : Option Y) (ys : List Y) → length (cons_option o ys) ≤ length ys + 1
 cons_length None ys = omega arith
@@ -32,47 +26,25 @@ pub kept_few : {X Y : Type 0} (h : X → Option Y) (xs : List X) → length (fil
 kept_few h [] = omega arith
 kept_few h (y ∷ ys) = omega (arith, cons_length (h y) (filter_map h ys), kept_few h ys)
 
--- ---- the order of steps of which some begin with others
+-- ---- the order of steps where one list has ended
 
-pub shorter : (rest : Bool) (ones others : List Step) → length ones < length others
-    → steps_before rest (drop (length ones) ones) (drop (length ones) others) ≡ true
-shorter rest [] [] less = absurd (omega arith)
-shorter rest [] (other ∷ others) less = refl
-shorter rest (one ∷ ones) [] less = absurd (omega arith)
-shorter rest (one ∷ ones) (other ∷ others) less = shorter rest ones others (omega arith)
+pub longer : (rest : Bool) (ones others : List Step) (at : ℕ) → at < length ones → length others ≤ at → steps_before rest (drop at ones) (drop at others) ≡ false
+longer rest ones others at inside past = ap (steps_before rest (drop at ones)) (drop_all at others past) ∙ left ones at inside where
+  left : (xs : List Step) (n : ℕ) → n < length xs → steps_before rest (drop n xs) [] ≡ false
+  left [] n within = absurd (omega arith)
+  left (x ∷ xs) zero within = refl
+  left (x ∷ xs) (suc n) within = left xs n (omega arith)
 
-pub longer : (rest : Bool) (ones others : List Step) → length others < length ones
-    → steps_before rest (drop (length others) ones) (drop (length others) others) ≡ false
-longer rest [] [] more = absurd (omega arith)
-longer rest [] (other ∷ others) more = absurd (omega arith)
-longer rest (one ∷ ones) [] more = refl
-longer rest (one ∷ ones) (other ∷ others) more = longer rest ones others (omega arith)
+pub shorter : (rest : Bool) (ones others : List Step) (at : ℕ) → length ones ≤ at → at < length others → steps_before rest (drop at ones) (drop at others) ≡ true
+shorter rest ones others at past inside = ap (λ xs. steps_before rest xs (drop at others)) (drop_all at ones past) ∙ left others at inside where
+  left : (xs : List Step) (n : ℕ) → n < length xs → steps_before rest [] (drop n xs) ≡ true
+  left [] n within = absurd (omega arith)
+  left (x ∷ xs) zero within = refl
+  left (x ∷ xs) (suc n) within = left xs n (omega arith)
 
-nat_lt_yes : (a b : ℕ) → a < b → nat_lt a b ≡ true
-nat_lt_yes a b h = grind (arith, nat_tests)
-
-nat_lt_no : (a b : ℕ) → b ≤ a → nat_lt a b ≡ false
-nat_lt_no a b h = grind (arith, nat_tests)
-
--- where one has ended and the other hasn't, the shorter comes first
-pub ended : (rest : Bool) (ones others : List Step) (at : ℕ) → at ≤ length ones → at ≤ length others → (length ones ≤ at) ⊎ (length others ≤ at)
-    → (length ones ≡ length others → ⊥) → nat_lt (length ones) (length others) ≡ steps_before rest (drop at ones) (drop at others)
-ended rest ones others at in_ones in_others (inl past) differ =
-    let is : length ones ≡ at = omega arith in
-    let less : length ones < length others = by_order (cases_lt (length ones) (length others)) in
-    nat_lt_yes (length ones) (length others) less ∙ sym (shorter rest ones others less)
-    ∙ ap (λ (n : ℕ). steps_before rest (drop n ones) (drop n others)) is where
-      by_order : (length ones < length others) ⊎ (length others ≤ length ones) → length ones < length others
-      by_order (inl less) = less
-      by_order (inr more) = absurd (differ (omega arith))
-ended rest ones others at in_ones in_others (inr past) differ =
-    let is : length others ≡ at = omega arith in
-    let more : length others < length ones = by_order (cases_lt (length others) (length ones)) in
-    nat_lt_no (length ones) (length others) (omega arith) ∙ sym (longer rest ones others more)
-    ∙ ap (λ (n : ℕ). steps_before rest (drop n ones) (drop n others)) is where
-      by_order : (length others < length ones) ⊎ (length ones ≤ length others) → length others < length ones
-      by_order (inl more) = more
-      by_order (inr less) = absurd (differ (omega arith))
+pub ended : (rest : Bool) (ones others : List Step) (at : ℕ) → length ones ≤ at → length others ≤ at → steps_before rest (drop at ones) (drop at others) ≡ rest
+ended rest ones others at past passed =
+    ap (λ xs. steps_before rest xs (drop at others)) (drop_all at ones past) ∙ ap (steps_before rest []) (drop_all at others passed)
 
 -- ---- how many items pass a test, with one more
 

@@ -1,3 +1,4 @@
 pub mod CountLaws
 pub mod CourseLaws
 pub mod SumLaws
+pub mod TableLaws

@@ -2,9 +2,9 @@
 use Rattle.std.specs.Prelude.{◌≡◌, ℕ, ℤ, ◌+◌, ⊤, List, [], ◌∷◌, length, map, Option}
 use Rattle.std.specs.List.{flat_map, sum_by}
 use Rattle.ioam_delays.specs.declared.sight.Sight.{Sight}
-use Rattle.ioam_delay_tables.specs.Tables.{IsTable}
+use Rattle.ioam_delay_counts.specs.Tables.{IsTable}
 use Rattle.ioam_delay_counts.specs.Courses.{Course, IsWay, hops_from, nodes_from, space_of}
-use Rattle.ioam_delay_counts.specs.Orders.{hop_before, node_key_before, space_before, way_before}
+use Rattle.ioam_delay_counts.specs.Orders.{hop_before, node_before, space_before, way_before}
 use Rattle.ioam_delay_counts.specs.Tallies.{CountsFilled, CountsPassed, CountsSeen}
 use Rattle.ioam_delay_counts.specs.declared.keys.HopKey.{HopKey}
 use Rattle.ioam_delay_counts.specs.declared.keys.NodeKey.{NodeKey}
@@ -36,7 +36,7 @@ pub record AreCounted (courses : List Course) (sums : Sums) : Type 0 where
   pub are_ways : AreWays courses ways_seen
   pub ways : IsTable way_before CountsPassed ways_seen sums.ways
   pub hops : IsTable hop_before CountsPassed (flat_map hops_in courses) sums.hops
-  pub nodes : IsTable node_key_before CountsSeen (flat_map nodes_in courses) sums.nodes
+  pub nodes : IsTable node_before CountsSeen (flat_map nodes_in courses) sums.nodes
   -- the tables have room for so many rows
   pub most_spaces : sums.spaces.limit ≡ 1024
   pub most_ways : sums.ways.limit ≡ 1024

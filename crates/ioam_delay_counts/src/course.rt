@@ -1,9 +1,9 @@
 //! What is counted of a trace.
-ghost use Rattle.std.specs.Prelude.{◌≡◌, ◌<◌, ◌^◌, ◌+◌, ◌++◌, List, ℤ, Option, None, IfOk, OnOk, length};
-ghost use Rattle.ioam_delay_tables.specs.Tables.{IsTable};
+ghost use Rattle.std.specs.Prelude.{◌≡◌, ◌<◌, ◌^◌, ◌+◌, ◌++◌, List, ℤ, Option, None, OnOk, length};
+ghost use Rattle.ioam_delay_counts.specs.Tables.{IsTable};
 ghost use Rattle.ioam_delays.specs.declared.sight.Sight.{Sight};
 ghost use Rattle.ioam_delay_counts.specs.Courses.{Course, IsWay, hops_from, last_hops, nodes_from, steps_of, whole_delay};
-ghost use Rattle.ioam_delay_counts.specs.Orders.{hop_before, node_key_before};
+ghost use Rattle.ioam_delay_counts.specs.Orders.{hop_before, node_before};
 ghost use Rattle.ioam_delay_counts.specs.Tallies.{CountsPassed, CountsSeen};
 ghost use Rattle.ioam_delay_counts.specs.declared.keys.HopKey.{HopKey};
 ghost use Rattle.ioam_delay_counts.specs.declared.keys.NodeKey.{NodeKey};
@@ -11,8 +11,8 @@ ghost use Rattle.ioam_delay_counts.specs.declared.keys.NodeKey.{NodeKey};
 use crate::keys::{HopKey, NodeKey, Step, WayKey};
 use crate::passed::Passed;
 use crate::seen::Seen;
+use crate::table::Table;
 use ioam_base::memory::NoMemory;
-use ioam_delay_tables::Table;
 use ioam_delays::{Sight, between, gap_after, gap_between};
 use std::alloc::Global;
 
@@ -23,16 +23,16 @@ pub fn count_nodes(
     sights: &[Sight],
     nodes: &mut Table<NodeKey, Seen>,
 ) -> Result<(), NoMemory>
-    ensures counted { OnOk result ((seen : List (NodeKey × Sight)) → length seen + length sights.now < 2 ^ 48 → IsTable node_key_before CountsSeen seen nodes.old
-        → IsTable node_key_before CountsSeen (seen ++ nodes_from namespace sights.now) nodes.new) }
+    ensures counted { OnOk result ((seen : List (NodeKey × Sight)) → length seen + length sights.now < 2 ^ 48 → IsTable node_before CountsSeen seen nodes.old
+        → IsTable node_before CountsSeen (seen ++ nodes_from namespace sights.now) nodes.new) }
     ensures limit { nodes.new.limit ≡ nodes.old.limit }
 {
     'sights: for sight in sights.iter() {
-        let key = NodeKey {
+        let mut key = NodeKey {
             namespace,
             node: sight.node,
         };
-        nodes.count(alloc, key, *sight)?;
+        nodes.count(alloc, &mut key, *sight)?;
     }
     Ok(())
 }
@@ -52,23 +52,23 @@ pub fn count_hops(
     'hops: while at < sights.len() {
         let from = sights[at - 1];
         let to = sights[at];
-        let key = HopKey {
+        let mut key = HopKey {
             namespace,
             from: from.node,
             to: to.node,
             past: gap_between(from.hops, to.hops),
         };
-        hops.count(alloc, key, between(from.stamp, to.stamp))?;
+        hops.count(alloc, &mut key, between(from.stamp, to.stamp))?;
         at += 1;
     }
     Ok(())
 }
 
-// The steps of the way of a trace.
-fn steps(alloc: Global, sights: &[Sight]) -> Result<Vec<Step>, NoMemory>
-    ensures { IfOk result (λ steps. steps.items ≡ steps_of None sights.now) }
+// Makes these the steps of the way of a trace.
+fn put_steps(sights: &[Sight], steps: &mut Vec<Step>) -> Result<(), NoMemory>
+    ensures { OnOk result (steps.new.items ≡ steps_of None sights.now) }
 {
-    let mut steps = Vec::new(alloc);
+    steps.clear();
     let mut before = None;
     'sights: for sight in sights.iter() {
         steps.push(Step {
@@ -77,7 +77,7 @@ fn steps(alloc: Global, sights: &[Sight]) -> Result<Vec<Step>, NoMemory>
         })?;
         before = sight.hops;
     }
-    Ok(steps)
+    Ok(())
 }
 
 // The hop limit of the last element of a trace.
@@ -90,22 +90,21 @@ fn last_of(sights: &[Sight]) -> Option<u8>
     sights[sights.len() - 1].hops
 }
 
-/// The way of a trace.
-pub fn way(
-    alloc: Global,
+/// Makes it the way of a trace, in the memory that it has.
+pub fn put_way(
     namespace: u16,
     overflow: bool,
     limit: u8,
     sights: &[Sight],
-) -> Result<WayKey, NoMemory>
-    ensures { IfOk result (λ way. IsWay (record { namespace = namespace; overflow = overflow; limit = limit; sights = sights.now }) way (whole_delay sights.now)) }
+    way: &mut WayKey,
+) -> Result<(), NoMemory>
+    ensures { OnOk result (IsWay (record { namespace = namespace; overflow = overflow; limit = limit; sights = sights.now }) way.new (whole_delay sights.now)) }
 {
-    Ok(WayKey {
-        namespace,
-        steps: steps(alloc, sights)?,
-        tail: gap_after(last_of(sights), limit),
-        overflow,
-    })
+    way.namespace = namespace;
+    put_steps(sights, &mut way.steps)?;
+    way.tail = gap_after(last_of(sights), limit);
+    way.overflow = overflow;
+    Ok(())
 }
 
 /// The delay from the first element of a trace to the last.

@@ -1,8 +1,8 @@
 //! How full traces are.
 ghost use Rattle.std.specs.Prelude.{◌≡◌};
 
+use crate::tally::Tally;
 use ioam_base::memory::NoMemory;
-use ioam_delay_tables::Tally;
 use std::alloc::Global;
 
 /// How full a trace is.

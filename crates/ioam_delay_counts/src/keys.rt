@@ -1,10 +1,12 @@
 //! The keys of tables, and their order.
 ghost use Rattle.std.specs.Prelude.{◌≡◌};
-ghost use Rattle.ioam_delay_counts.specs.Keys.{gap_before, node_before, steps_before};
+ghost use Rattle.ioam_delay_counts.specs.Keys.{id_of, known_before, length_of, steps_before};
 ghost use Rattle.ioam_delay_counts.specs.Orders.{ends_before};
 
-use ioam_delay_tables::Key;
+use crate::key::Key;
 use ioam_delays::{Gap, Node};
+use std::alloc::Global;
+use std::mem;
 
 /// A namespace.
 #[derive(Clone, Copy, Debug, Drop)]
@@ -54,9 +56,21 @@ pub struct WayKey {
     pub overflow: bool,
 }
 
+impl WayKey {
+    // One that no trace went.
+    pub(crate) fn new(alloc: Global) -> WayKey {
+        WayKey {
+            namespace: 0,
+            steps: Vec::new(alloc),
+            tail: Gap::Nodes(0),
+            overflow: false,
+        }
+    }
+}
+
 // Whether a node comes before another: by its id, and one without an id last.
 fn node_precedes(one: Node, other: Node) -> bool
-    ensures { result ≡ node_before one other }
+    ensures { result ≡ known_before (id_of one) (id_of other) }
 {
     match (one, other) {
         (Node::Id(one), Node::Id(other)) => one < other,
@@ -67,7 +81,7 @@ fn node_precedes(one: Node, other: Node) -> bool
 
 // Whether a gap comes before another: a shorter one, and one of unknown length last.
 fn gap_precedes(one: Gap, other: Gap) -> bool
-    ensures { result ≡ gap_before one other }
+    ensures { result ≡ known_before (length_of one) (length_of other) }
 {
     match (one, other) {
         (Gap::Nodes(one), Gap::Nodes(other)) => one < other,
@@ -78,36 +92,57 @@ fn gap_precedes(one: Gap, other: Gap) -> bool
 
 impl Key for SpaceKey {
     ghost use Rattle.ioam_delay_counts.specs.Orders.{space_before};
+    ghost use Rattle.ioam_delay_counts.specs.Onward.{space_onward};
 
     ghost before = { space_before };
+
+    ghost onward = { space_onward };
 
     fn precedes(&self, other: &SpaceKey) -> bool {
         self.0 < other.0
     }
+
+    fn take(&mut self, _alloc: Global) -> SpaceKey {
+        *self
+    }
 }
 
 impl Key for NodeKey {
-    ghost use Rattle.ioam_delay_counts.specs.Orders.{node_key_before};
+    ghost use Rattle.ioam_delay_counts.specs.Orders.{node_before};
+    ghost use Rattle.ioam_delay_counts.specs.Onward.{node_onward};
 
-    ghost before = { node_key_before };
+    ghost before = { node_before };
+
+    ghost onward = { node_onward };
 
     fn precedes(&self, other: &NodeKey) -> bool {
-        if self.namespace != other.namespace {
-            self.namespace < other.namespace
+        if self.namespace < other.namespace {
+            true
+        } else if other.namespace < self.namespace {
+            false
         } else {
             node_precedes(self.node, other.node)
         }
+    }
+
+    fn take(&mut self, _alloc: Global) -> NodeKey {
+        *self
     }
 }
 
 impl Key for HopKey {
     ghost use Rattle.ioam_delay_counts.specs.Orders.{hop_before};
+    ghost use Rattle.ioam_delay_counts.specs.Onward.{hop_onward};
 
     ghost before = { hop_before };
 
+    ghost onward = { hop_onward };
+
     fn precedes(&self, other: &HopKey) -> bool {
-        if self.namespace != other.namespace {
-            self.namespace < other.namespace
+        if self.namespace < other.namespace {
+            true
+        } else if other.namespace < self.namespace {
+            false
         } else if node_precedes(self.from, other.from) {
             true
         } else if node_precedes(other.from, self.from) {
@@ -120,18 +155,32 @@ impl Key for HopKey {
             gap_precedes(self.past, other.past)
         }
     }
+
+    fn take(&mut self, _alloc: Global) -> HopKey {
+        *self
+    }
 }
 
 impl Key for WayKey {
     ghost use Rattle.ioam_delay_counts.specs.Orders.{way_before};
+    ghost use Rattle.ioam_delay_counts.specs.Onward.{way_onward};
 
     ghost before = { way_before };
 
+    ghost onward = { way_onward };
+
     fn precedes(&self, other: &WayKey) -> bool {
-        if self.namespace != other.namespace {
-            return self.namespace < other.namespace;
+        if self.namespace < other.namespace {
+            true
+        } else if other.namespace < self.namespace {
+            false
+        } else {
+            steps_precede(ends_precede(self, other), &self.steps, &other.steps)
         }
-        steps_precede(ends_precede(self, other), &self.steps, &other.steps)
+    }
+
+    fn take(&mut self, alloc: Global) -> WayKey {
+        mem::replace(self, WayKey::new(alloc))
     }
 }
 
@@ -170,9 +219,11 @@ fn steps_precede(rest: bool, ones: &[Step], others: &[Step]) -> bool
         }
         at += 1;
     }
-    if ones.len() == others.len() {
-        rest
+    if at < ones.len() {
+        false
+    } else if at < others.len() {
+        true
     } else {
-        ones.len() < others.len()
+        rest
     }
 }

@@ -2,8 +2,8 @@
 ghost use Rattle.std.specs.Prelude.{◌≡◌};
 
 use crate::delays::{first_delay, put_some};
+use crate::tally::Tally;
 use ioam_base::memory::NoMemory;
-use ioam_delay_tables::Tally;
 use ioam_delays::Counter;
 use std::alloc::Global;
 

@@ -3,8 +3,8 @@ ghost use Rattle.std.specs.Prelude.{◌≡◌};
 ghost use Rattle.ioam_delay_counts.specs.Tallies.{is_bad, is_long, is_time, taken_of};
 
 use crate::delays::{first_delay, put_some};
+use crate::tally::Tally;
 use ioam_base::memory::NoMemory;
-use ioam_delay_tables::Tally;
 use ioam_delays::{Counter, Sight, Stamp, Transit};
 use std::alloc::Global;
 

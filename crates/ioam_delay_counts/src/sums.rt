@@ -1,13 +1,13 @@
 //! What is counted of all traces.
 ghost use Rattle.std.specs.Prelude.{◌≡◌, ◌<◌, ◌^◌, ◌+◌, ◌++◌, ◌∷◌, [], List, OnOk, length};
 
-use crate::course::{count_hops, count_nodes, way, whole_delay};
+use crate::course::{count_hops, count_nodes, put_way, whole_delay};
 use crate::filled::{Fill, Filled};
 use crate::keys::{HopKey, NodeKey, SpaceKey, WayKey};
 use crate::passed::Passed;
 use crate::seen::Seen;
+use crate::table::Table;
 use ioam_base::memory::NoMemory;
-use ioam_delay_tables::Table;
 use ioam_delays::Sight;
 use std::alloc::Global;
 
@@ -28,6 +28,8 @@ pub struct Sums {
     pub hops: Table<HopKey, Passed>,
     /// The elements of each node.
     pub nodes: Table<NodeKey, Seen>,
+    // The way of the trace that is counted, in memory that is kept.
+    pub(crate) way: WayKey,
 }
 
 impl Sums {
@@ -43,6 +45,7 @@ impl Sums {
             ways: Table::new(alloc, MOST_WAYS),
             hops: Table::new(alloc, MOST_HOPS),
             nodes: Table::new(alloc, MOST_HOPS),
+            way: WayKey::new(alloc),
         }
     }
 
@@ -64,9 +67,10 @@ impl Sums {
             overflow,
             empty: sights.is_empty(),
         };
-        self.spaces.count(alloc, SpaceKey(namespace), fill)?;
-        let way = way(alloc, namespace, overflow, limit, sights)?;
-        self.ways.count(alloc, way, whole_delay(sights))?;
+        let mut space = SpaceKey(namespace);
+        self.spaces.count(alloc, &mut space, fill)?;
+        put_way(namespace, overflow, limit, sights, &mut self.way)?;
+        self.ways.count(alloc, &mut self.way, whole_delay(sights))?;
         count_hops(alloc, namespace, sights, &mut self.hops)?;
         count_nodes(alloc, namespace, sights, &mut self.nodes)?;
         Ok(())

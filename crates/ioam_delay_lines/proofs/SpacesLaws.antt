@@ -1,7 +1,7 @@
 -- The ways of a namespace, those with the most traces first.
 use Rattle.std.proofs.Common.{◌≡◌, ℕ, zero, suc, ◌-◌, ◌<◌, List, [], ◌++◌, refl, arith}
 use Rattle.std.proofs.lemmas.Bool.{cond-false, cond-true, eq-eqb, ne_eqb}
-use Rattle.ioam_delay_tables.specs.declared.table.Row.{Row}
+use Rattle.ioam_delay_counts.specs.declared.table.Row.{Row}
 use Rattle.ioam_delay_counts.specs.declared.keys.WayKey.{WayKey}
 use Rattle.ioam_delay_counts.specs.declared.passed.Passed.{Passed}
 use Rattle.ioam_delay_lines.specs.Spaces.{next_count, ways_of, ways_up_to}

@@ -2,7 +2,7 @@
 use Rattle.std.specs.Prelude.{ℕ, ◌+◌, ◌-◌, ◌^◌, ◌==◌, min, int_lt, pos, unsigned_abs, if◌then◌else◌, List, [], ◌++◌, codes, decimal, Option, Some, None}
 use Rattle.std.specs.List.{fold}
 use Rattle.ioam_delays.specs.declared.counter.Counter.{Counter}
-use Rattle.ioam_delay_tables.specs.declared.table.Row.{Row}
+use Rattle.ioam_delay_counts.specs.declared.table.Row.{Row}
 use Rattle.ioam_delay_counts.specs.declared.keys.HopKey.{HopKey}
 use Rattle.ioam_delay_counts.specs.declared.passed.Passed.{Passed}
 use Rattle.ioam_delay_lines.specs.Picture.{picture_text}

@@ -1,7 +1,7 @@
 -- The lines of each namespace: its own, those of its ways, of its hops and of its nodes.
 use Rattle.std.specs.Prelude.{ℕ, zero, suc, ◌-◌, ◌^◌, ◌==◌, ◌&&◌, max, nat_le, if◌then◌else◌, List, [], ◌++◌, length}
 use Rattle.std.specs.List.{flat_map, fold}
-use Rattle.ioam_delay_tables.specs.declared.table.Row.{Row}
+use Rattle.ioam_delay_counts.specs.declared.table.Row.{Row}
 use Rattle.ioam_delay_counts.specs.declared.filled.Filled.{Filled}
 use Rattle.ioam_delay_counts.specs.declared.keys.HopKey.{HopKey}
 use Rattle.ioam_delay_counts.specs.declared.keys.NodeKey.{NodeKey}

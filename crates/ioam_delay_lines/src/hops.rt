@@ -8,8 +8,7 @@ use crate::share::put_share;
 use crate::words::{put_gap, put_node};
 use ioam_base::memory::NoMemory;
 use ioam_base::text::{append, append_decimal};
-use ioam_delay_counts::{HopKey, Passed};
-use ioam_delay_tables::Row;
+use ioam_delay_counts::{HopKey, Passed, Row};
 use ioam_delays::Counter;
 use std::alloc::Global;
 

@@ -5,8 +5,7 @@ ghost use Rattle.ioam_delay_lines.specs.Spaces.{hop_line, hops_text, next_count,
 use crate::hops::{put_drawing, put_hop_row, whole_of};
 use crate::rows::{put_node_row, put_space_row, put_way_row};
 use ioam_base::memory::NoMemory;
-use ioam_delay_counts::{Filled, HopKey, NodeKey, Passed, Seen, SpaceKey, Sums, WayKey};
-use ioam_delay_tables::Row;
+use ioam_delay_counts::{Filled, HopKey, NodeKey, Passed, Row, Seen, SpaceKey, Sums, WayKey};
 use std::alloc::Global;
 
 /// Appends the lines of each namespace, and of what is in it: the ways by falling count, the hops and the nodes.

@@ -1,2 +1,4 @@
 pub mod Traces
 pub mod Totals
+pub mod Shown
+pub mod Listed

@@ -30,6 +30,8 @@ pub struct Totals {
     pub bad: u64,
     /// The fractions of the time stamps.
     pub fractions: Fractions,
+    // What the elements of the trace that is counted say, in memory that is kept.
+    pub(crate) sights: Vec<Sight>,
 }
 
 impl Totals {
@@ -48,6 +50,7 @@ impl Totals {
             overflow: 0,
             bad: 0,
             fractions: Fractions { count: 0, most: 0 },
+            sights: Vec::new(alloc),
         }
     }
 
@@ -70,11 +73,10 @@ impl Totals {
                 return Ok(());
             }
         };
-        let sights = read_sights(alloc, units, &trace)?;
+        read_sights(units, &trace, &mut self.sights)?;
         let overflow = trace.head.has_overflow();
-        self.sums
-            .count(alloc, trace.head.namespace.0, overflow, limit, &sights)?;
-        self.fractions.add(&sights);
+        self.sums.count(alloc, trace.head.namespace.0, overflow, limit, &self.sights)?;
+        self.fractions.add(&self.sights);
         self.traces = self.traces.saturating_add(1);
         self.overflow = self.overflow.saturating_add(u64::from(overflow));
         Ok(())

@@ -3,11 +3,12 @@ use Rattle.std.proofs.Common.{◌≡◌, length, ℕ, ◌+◌, ◌<◌, ◌≤�
 use Rattle.std.specs.Prelude.{Bool, None, Some, cond, min}
 use mir.Val.{bool_byte}
 use Rattle.std.specs.List.{count_by}
+use Rattle.std.proofs.lemmas.List.Concat.{flat_map-append}
 use Rattle.std.proofs.lemmas.List.Sums.{count_by-le-length, sum_by-append}
 use Rattle.ioam_delay_counts.specs.Counted.{weight}
 use Rattle.ioam_delay_counts.specs.Courses.{Course}
-use Rattle.ioam_delay_packets.specs.Shown.{Grows, IsLight}
-use Rattle.ioam_delay_packets.proofs.LightLaws.{shown_many, shown_weight, weight_append}
+use Rattle.ioam_delay_traces.specs.Shown.{Grows, IsLight}
+use Rattle.ioam_delay_traces.proofs.LightLaws.{shown_many, shown_weight, weight_append}
 use Rattle.ioam_ip.specs.Framing.{Framing, Holds, NoIpv6, CutShort, TooShort}
 use Rattle.ioam_ip.proofs.WithinLaws.{held-within}
 use Rattle.ioam_pcap.specs.Cut.{is_cut}
@@ -24,13 +25,8 @@ use Rattle.ioam_run_delays.specs.declared.gathering.Delaying.{Delaying}
 use Rattle.ioam_run_delays.proofs.ObservationLaws.{ShowAll-push, ShowAll-unique}
 use Rattle.ioam_topo.specs.declared.format.Format.{Format}
 
-append_assoc-sym : (xs ys zs : List (Option Course)) → xs ++ (ys ++ zs) ≡ (xs ++ ys) ++ zs
-append_assoc-sym [] ys zs = refl
-append_assoc-sym (x ∷ xs) ys zs = ap (λ (rest : List (Option Course)). x ∷ rest) (append_assoc-sym xs ys zs)
-
 traces_push : (seen : List Observation) (o : Observation) → traces_in (seen ++ o ∷ []) ≡ traces_in seen ++ traces_of o
-traces_push [] o = append-nil (traces_of o)
-traces_push (p ∷ seen) o = ap (λ (rest : List (Option Course)). traces_of p ++ rest) (traces_push seen o) ∙ append_assoc-sym (traces_of p) (traces_in seen) (traces_of o)
+traces_push seen o = flat_map-append traces_of seen (o ∷ []) ∙ ap (λ (rest : List (Option Course)). traces_in seen ++ rest) (append-nil (traces_of o))
 
 -- the traces of a record, and their elements, are no more than the octets that a record may have
 pub record IsShort (traces : List (Option Course)) : Type 0 where

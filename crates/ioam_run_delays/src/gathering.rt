@@ -1,6 +1,6 @@
 //! The report of `delays`, gathered record by record.
 ghost use Rattle.std.specs.Prelude.{◌≡◌, ◌≤◌, ◌^◌, ◌++◌, IfOk, OnOk, length};
-ghost use Rattle.ioam_delay_packets.specs.Shown.{Grows};
+ghost use Rattle.ioam_delay_traces.specs.Shown.{Grows};
 ghost use Rattle.ioam_ip.specs.Packet.{IsPacket};
 ghost use Rattle.ioam_run_delays.specs.DelaysText.{is_skipped, report_text, totals_text, traces_of};
 ghost use Rattle.ioam_run_delays.specs.Observation.{Observation, PacketShows, Shows};
@@ -11,8 +11,7 @@ use ioam_base::memory::NoMemory;
 use ioam_delay_lines::{
     put_beyond_row, put_format_row, put_packets_row, put_spaces, put_traces_row,
 };
-use ioam_delay_packets::count_packet;
-use ioam_delay_traces::Totals;
+use ioam_delay_traces::{Totals, count_packet};
 use ioam_desk_outputs::Output;
 use ioam_ip::{Framed, Walk, walk};
 use ioam_pcap::{Link, Packet};

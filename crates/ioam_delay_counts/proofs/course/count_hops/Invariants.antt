@@ -1,5 +1,5 @@
 use Rattle.std.proofs.Common.{◌≡◌, ◌<◌, ◌≤◌, ◌+◌, ◌-◌, ◌^◌, ◌++◌, List, ℤ, Option, length, take}
-use Rattle.ioam_delay_tables.specs.Tables.{IsTable}
+use Rattle.ioam_delay_counts.specs.Tables.{IsTable}
 use Rattle.ioam_delay_counts.specs.Courses.{hops_from}
 use Rattle.ioam_delay_counts.specs.Orders.{hop_before}
 use Rattle.ioam_delay_counts.specs.Tallies.{CountsPassed}

@@ -23,8 +23,8 @@ returns c = λ seen light short are.
     let Counts : List Sight → Type 0 = λ sights. (fs : List ℕ) → length fs + length sights < 2 ^ 48 → AreFractions fs c.args.self.now.fractions
     → AreFractions (fs ++ fractions_in sights) c.add.new.self in
     let one : course_of c.args.units c.args.limit c.args.octets.now ≡ Some course =
-    course_is c.args.units c.args.limit c.args.octets.now c.in-Ok.trace b c.deref.result.now c.in-Ok.ensures.fault head c.in-Ok.ensures.elements
+    course_is c.args.units c.args.limit c.args.octets.now c.in-Ok.trace.head _ b c.deref.result.now c.in-Ok.ensures.fault head c.in-Ok.ensures.elements
     (overflow_is b c.in-Ok.trace.head.flags (u16_at c.args.octets.now 2) c.has_overflow-overflow.ensures.0 c.has_overflow-overflow.ensures.1 head.flags)
-    (c.deref.ensures.value ∙ c.in_ok-sights.ensures) in
+    (c.deref.ensures.value ∙ c.in_ok-read_sights.ensures) in
     total_more seen course _ c.args.self.now _ b c.from.result one light short are c.in_ok-count.ensures c.saturating_add-self-2.ensures refl c.from.ensures c.saturating_add-self-3.ensures refl
     (subst Counts again c.add.ensures)

@@ -1,2 +1,0 @@
-pub mod ShownLaws
-pub mod LightLaws
