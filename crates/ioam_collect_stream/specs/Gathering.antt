@@ -1,7 +1,5 @@
 -- Export records that are read in pieces while a collector regroups them.
 use Rattle.std.specs.Prelude.{◌≡◌, ℕ, ◌<◌, ◌≤◌, ◌⊎◌, List, [], ◌∷◌, ◌++◌, length, Option, Some, None}
-use Rattle.ioam_desk.specs.Desk as desk
-use Rattle.ioam_desk.specs.Desk.{Rose, SameBut}
 use Rattle.ioam_dex.specs.Record.{Record, most_records}
 use Rattle.ioam_dex.specs.Reads.{Faulty, Reads, Splits}
 use Rattle.ioam_dex.specs.Faults.{IsCut}
@@ -89,7 +87,3 @@ pub record AreWhole (left : List ℕ) (records : List Record) (octets : List ℕ
   pub rest : List ℕ
   pub splits : Splits handed records rest
   pub cut : IsCut rest
-
--- no input slot but this one was read
-abbrev pub ReadsOne : ℕ → desk.Reading → desk.Reading → Type 0
-ReadsOne slot old new = SameBut slot old.left new.left × SameBut slot old.ended new.ended

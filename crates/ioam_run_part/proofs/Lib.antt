@@ -1,5 +1,5 @@
-mod DecidingLaws
 mod FailuresLaws
+mod FileLaws
 mod JoinedLaws
 mod KeptLaws
 mod MergeAskedLaws

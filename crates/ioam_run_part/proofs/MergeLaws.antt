@@ -17,7 +17,7 @@ use Rattle.ioam_run_part.specs.Joined.{HoldsBoth, HoldsBothFront, WritesJoined}
 use Rattle.ioam_run_part.specs.MergePromise.{HoldsMerged, HoldsMergedFront, MergeAsked, MergeCause, MergeKeeps, MergeLeaves, OpensNoPart, one_held, two_held}
 use Rattle.ioam_run_part.specs.Records.{HoldBoth, AreParts, KeepFew, KeepMany}
 use Rattle.ioam_run_part.specs.Two.{AnswersTwo, TriesTwo, HoldsTwo, OpensUpTo, RefusesTwo}
-use Rattle.ioam_run_part.proofs.DecidingLaws.{none_asked}
+use Rattle.ioam_run_part.proofs.FileLaws.{none_asked}
 use Rattle.ioam_run_part.proofs.JoinedLaws.{merged}
 use Rattle.ioam_run_part.proofs.MergeAskedLaws.{merge_asked}
 

@@ -15,7 +15,6 @@ use Rattle.ioam_run_answer.specs.Desks.{Desks}
 use Rattle.ioam_run_answer.specs.Outcomes.{IsDone, IsSettled, OpensNothing}
 use Rattle.ioam_run_answer.specs.declared.outcome.Outcome.{Outcome}
 use Rattle.ioam_run_answer.specs.declared.outcome.Outcome.TheVariants as outcome
-use Rattle.ioam_run_part.specs.Deciding.{TriesFile}
 use Rattle.ioam_run_part.specs.Files.{PartsNames}
 use Rattle.ioam_run_part.specs.KeptText.{part_lines}
 use Rattle.ioam_run_part.specs.MergePromise.{OpensNoPart}
@@ -23,11 +22,11 @@ use Rattle.ioam_run_part.specs.PartsPromise.{HoldsLines, HoldsLinesFront, PartsA
 use Rattle.ioam_run_part.specs.Records.{IsAPart}
 use Rattle.ioam_run_part.specs.Stored.{AnswersWrites, HoldsFrontOf, Stores, answer_of}
 use Rattle.ioam_run_part.specs.Two.{AnswersTwo}
-use Rattle.ioam_run_part.specs.Unread.{AnswersReads, IsHeld, ReadsFile}
+use Rattle.ioam_run_part.specs.Unread.{AnswersReads, IsHeld, ReadsFile, TriesFile}
 use Rattle.ioam_run_part.specs.Unread as unread_file
 use Rattle.ioam_run_part.specs.declared.unread.Unread.{Unread}
 use Rattle.ioam_run_part.specs.declared.unread.Unread.TheVariants as unread
-use Rattle.ioam_run_part.proofs.DecidingLaws.{tries_none}
+use Rattle.ioam_run_part.proofs.FileLaws.{tries_none}
 use Rattle.ioam_run_part.proofs.FailuresLaws.{read_failed, written_answered}
 use Rattle.ioam_run_part.proofs.MergeLaws.{some_held, none_asked_out}
 use Rattle.ioam_run_part.proofs.PartsAskedLaws.{parts_asked}

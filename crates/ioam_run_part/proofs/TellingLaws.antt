@@ -6,12 +6,12 @@ use Rattle.ioam_desk.specs.Touches.{State}
 use Rattle.ioam_desk_outputs.specs.Held.{HoldTexts, HoldFronts}
 use Rattle.ioam_desk_outputs.specs.Told.{Adds, said_more}
 use Rattle.ioam_desk_outputs.specs.declared.output.Output.{Output}
-use Rattle.ioam_run_part.specs.Stored.{AnswersWrites, HoldsFrontOf, Stores}
+use Rattle.ioam_run_part.specs.Stored.{HoldsFrontOf, Stores}
 use Rattle.ioam_run_part.specs.Telling.{IsTelling, Leaves, Puts, Tells, TellsFront, held_by, kind, stored_by, unfed}
 use Rattle.ioam_run_part.specs.declared.telling.Telling.{Telling}
 use Rattle.ioam_stream.specs.Frame.{Frame, HoldAll, HoldSome}
 use Rattle.ioam_stream.specs.Frame as frame_of
-use Rattle.ioam_stream.specs.Stage.{Begins, Ends, Feeds, Seen, Takes, How, Ended, Handed}
+use Rattle.ioam_stream.specs.Stage.{Begins, Feeds, Seen, Takes, How, Ended}
 use Rattle.ioam_stream.specs.declared.conversion.Tail.{Tail}
 use Rattle.ioam_stream.specs.declared.conversion.Tail.TheVariants as tail
 use Rattle.ioam_stream.specs.declared.reading.Stop.{Stop}
@@ -91,17 +91,6 @@ module _ {T : Type 0} (says : T → List ℕ → Type 0) (left : T → ℕ) wher
     all = λ text t. subst (λ (b : Bool). Leaves says left b stage.source s.said text) is (s.leaves text t);
   }
 
-  -- all is said
-  pub telling_ends : (stage : Telling T) (outputs : List Output) → stage.done ≡ true → Ends (kind says left) stage stage outputs outputs
-  telling_ends stage outputs is = record {
-    same = refl;
-    room = refl;
-    stands = λ begun seen so_far s. s;
-    drained = λ begun seen so_far s uncut drains i inside. absurd (omega (arith, inside));
-    whole = λ begun seen so_far contents s uncut covers. all_told begun stage seen so_far is s;
-    cut = λ begun seen so_far s cut. (all_told begun stage seen so_far is s, tt);
-  }
-
   -- what it was handed makes no difference
   pub telling_feeds : (More : Seen → Seen → Type 0) (old new : Telling T) → old.fed ≡ false → new.fed ≡ true
       → ((said text : List ℕ) → Leaves says left old.done old.source said text → Leaves says left new.done new.source said text) → Feeds (kind says left) More old new
@@ -122,12 +111,6 @@ front_on (Some part) said text front held = record {
 module _ (tells : Bool) (name : List ℕ) (old new : State) (drains : Type 0) where
   abbrev pub Framed : Stop → Type 0
   Framed answer = Frame tells [] (name ∷ []) old new drains answer
-
-  pub told_faults : (answer : Stop) → Framed answer → AnswersWrites old.outputs new.outputs (stored_by answer)
-  told_faults stop.Ended frame other = frame.touches.outputs.how.faults
-  told_faults stop.ReadFault frame other = frame.touches.outputs.how.faults
-  told_faults stop.WriteFault frame other = absurd (other refl)
-  told_faults stop.NoMemory frame other = frame.touches.outputs.how.faults
 
   module _ {T : Type 0} (says : T → List ℕ → Type 0) (left : T → ℕ) (begun : Telling T) where
     abbrev pub Left : Stop → Type 0

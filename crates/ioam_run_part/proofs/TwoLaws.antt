@@ -12,8 +12,7 @@ use Rattle.ioam_run_answer.specs.declared.outcome.Outcome.{Outcome}
 use Rattle.ioam_run_answer.specs.declared.outcome.Outcome.TheVariants as outcome
 use Rattle.ioam_run_part.specs.Records.{IsAPart, IsSecondFaulty, ReadsFew}
 use Rattle.ioam_run_part.specs.Two.{AnswersTwo, TriesTwo, HoldsTwo, RefusesTwo}
-use Rattle.ioam_run_part.specs.Deciding.{TriesFile}
-use Rattle.ioam_run_part.specs.Unread.{IsFlat, ReadsFile, answer_of}
+use Rattle.ioam_run_part.specs.Unread.{IsFlat, ReadsFile, TriesFile, answer_of}
 use Rattle.ioam_run_part.specs.declared.unread.Unread.{Unread}
 use Rattle.ioam_run_part.specs.declared.unread.Unread.TheVariants as unread
 use Rattle.ioam_run_part.proofs.MergeLaws.{some_held}

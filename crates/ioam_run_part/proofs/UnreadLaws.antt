@@ -1,9 +1,9 @@
 -- How much a reader of a part may have been fed, and the verdict on what it was.
-use Rattle.std.proofs.Common.{◌≡◌, ℕ, ◌+◌, ◌*◌, ◌<◌, ◌≤◌, ◌⊎◌, Bool, true, false, IsTrue, IsSomeAnd, List, [], ◌∷◌, ◌++◌, length, length-append, All, Option, None, Some, Ok, Err, refl, sym, ap, ◌∙◌, subst, inl, inr, append-nil, arith}
+use Rattle.std.proofs.Common.{◌≡◌, ℕ, ◌+◌, ◌-◌, ◌*◌, ◌^◌, ◌<◌, ◌≤◌, ◌⊎◌, Bool, true, false, IsTrue, IsSomeAnd, List, [], ◌∷◌, ◌++◌, length, length-append, All, Option, None, Some, Ok, Err, refl, sym, ap, ◌∙◌, subst, inl, inr, append-nil, arith}
 use Rattle.std.specs.Prelude.{MatchResult, Result, is_some, nat_lt, ⊤, ◌||◌}
 use Rattle.std.proofs.lemmas.List.Elements.{All-head, All-tail}
 use Rattle.ioam_desk.specs.Desk as desk
-use Rattle.ioam_desk.specs.Desk.{Gives, ReadInto, SameBut}
+use Rattle.ioam_desk.specs.Intake.{FailsFile, TakesFile}
 use Rattle.ioam_desk.specs.declared.fault.DeskFault.{DeskFault}
 use Rattle.ioam_desk.specs.declared.fault.DeskFault.TheVariants.{Failed, NoMemory}
 use Rattle.ioam_run_answer.specs.Faults.{IsCut}
@@ -14,7 +14,6 @@ use Rattle.ioam_run_answer.specs.Reads.{records_octets}
 use Rattle.ioam_run_answer.specs.Visit.{has_visit, twelve_where}
 use Rattle.ioam_run_answer.proofs.RecordLaws.{numbers_size-small, record_octets-length, record_size-small}
 use Rattle.ioam_collect.specs.Collected.{Collected}
-use Rattle.ioam_collect_stream.specs.Gathering.{ReadsOne}
 use Rattle.ioam_part.specs.Faults.{HasFault}
 use Rattle.ioam_part.specs.Reading as part
 use Rattle.ioam_part.specs.Reading.{PartReading, IsOpen, IsBehind, StandsBy, fault_of}
@@ -23,10 +22,9 @@ use Rattle.ioam_part.specs.declared.fault.PartFault.{PartFault}
 use Rattle.ioam_part.specs.declared.reader.PartRefused.{PartRefused}
 use Rattle.ioam_part.specs.declared.reader.PartRefused.TheVariants as refused
 use Rattle.ioam_part_merge.specs.Keeping as keeping
-use Rattle.ioam_run_part.specs.Deciding.{AnswersFile, Decides, IsRead}
+use Rattle.ioam_run_part.specs.Intakes.{IsFed, is_decided}
 use Rattle.ioam_run_part.specs.Records.{IsAPart}
-use Rattle.ioam_run_part.specs.Unread.{AnswersReads, IsFlat, IsHeld, ReadsFile, unread_by, verdict_of}
-use Rattle.ioam_run_part.specs.declared.unread.Unread.{Unread}
+use Rattle.ioam_run_part.specs.Unread.{IsFlat, IsHeld, ReadsFile, unread_by, verdict_of}
 use Rattle.ioam_run_part.proofs.OneFault.{one_fault, part_or_fault}
 
 -- ---- how much a reader of a part may have been fed
@@ -72,7 +70,7 @@ fed_by limit octets r (inr behind) =
     omega (arith, all, size)
 
 -- no more than it was handed
-pub fed_few : (limit : ℕ) (octets : List ℕ) (r : PartReading) → fault_of r ≡ None → part.Stands limit octets r → part.fed r ≤ length octets
+fed_few : (limit : ℕ) (octets : List ℕ) (r : PartReading) → fault_of r ≡ None → part.Stands limit octets r → part.fed r ≤ length octets
 fed_few limit octets r none stands = fed_by limit octets r (sound limit octets r none stands)
 
 -- octets in which no fault was found are no more than the longest part, and the front of a record
@@ -89,22 +87,41 @@ few_by limit octets r (inr behind) =
     let most = behind.few in
     omega (arith, size, head, body, few, cut, within, most)
 
-pub undecided_few : (limit : ℕ) (octets : List ℕ) (r : PartReading) → fault_of r ≡ None → part.Stands limit octets r → length octets < 287311000
+undecided_few : (limit : ℕ) (octets : List ℕ) (r : PartReading) → fault_of r ≡ None → part.Stands limit octets r → length octets < 287311000
 undecided_few limit octets r none stands = few_by limit octets r (sound limit octets r none stands)
 
 -- ---- a piece more
 
 -- nothing was decided
-pub undecided : (o : Option (ℕ × PartFault)) (left : ℕ) → (is_some o || nat_lt left 65536) ≡ false → (o ≡ None) × (65536 ≤ left)
+undecided : (o : Option (ℕ × PartFault)) (left : ℕ) → (is_some o || nat_lt left 65536) ≡ false → (o ≡ None) × (65536 ≤ left)
 undecided None left none = (refl, grind (arith, none))
 undecided (Some bad) left none = absurd (cc none)
 
-pub kept_more : (tells : Bool) (first old new : desk.Reading) (slot : ℕ) (into : List ℕ) (r : Result ℕ DeskFault) → ReadsOne slot first old → ReadInto tells old slot into r new → ReadsOne slot first new
-kept_more tells first old new slot into (Ok count) kept reads =
-    ((λ k apart. reads.1.other_left k apart ∙ kept.0 k apart), (λ k apart. reads.1.other_ended k apart ∙ kept.1 k apart))
-kept_more tells first old new slot into (Err Failed) kept reads =
-    ((λ k apart. ap (λ (left : ℕ → List ℕ). left k) reads.1 ∙ kept.0 k apart), (λ k apart. ap (λ (ended : ℕ → Bool). ended k) reads.2 ∙ kept.1 k apart))
-kept_more tells first old new slot into (Err NoMemory) kept reads = subst (λ now. ReadsOne slot first now) (sym reads) kept
+module _ (limit : ℕ) (octets : List ℕ) (r : PartReading) (left : ℕ) (fed : IsFed limit octets r left) where
+  -- if no fault was found, more octets than a piece may still be read
+  pub still_needed : fault_of r ≡ None → is_decided r left ≡ false
+  still_needed none =
+      let few = undecided_few limit octets r none fed.stands in
+      let within = fed.within in
+      let many : 65536 ≤ left = omega (arith, few, within) in
+      subst (λ (o : Option (ℕ × PartFault)). (is_some o || nat_lt left 65536) ≡ false) (sym none) (grind (arith, many))
+
+  module _ (piece : List ℕ) (needed : is_decided r left ≡ false) (few : length piece ≤ 65536) where
+    fits : length piece ≤ left
+    fits = let none = undecided (fault_of r) left needed in omega (arith, few, none.1)
+
+    pub may_feed : part.fed r + length piece < 2 ^ 63
+    may_feed =
+        let none = undecided (fault_of r) left needed in
+        let all = fed_few limit octets r none.0 fed.stands in
+        let within = fed.within in
+        omega (arith, all, within, few)
+
+    pub fed_more : (after : PartReading) → part.Stands limit (octets ++ piece) after → IsFed limit (octets ++ piece) after (left - length piece)
+    fed_more after stands = record {
+      stands = stands;
+      within = (let both = length-append octets piece in let within = fed.within in let less = fits in omega (arith, both, within, less));
+    }
 
 -- ---- the verdict
 
@@ -137,40 +154,47 @@ judges_kept octets (Err (refused.Fault at fault)) has = has
 judges_kept octets (Err refused.Full) none = tt
 judges_kept octets (Err refused.NoMemory) none = tt
 
-module _ {A T : Type 0} (reading : T → PartReading) (Stands : List ℕ → T → Type 0) (reads_so : (octets : List ℕ) (now : T) → Stands octets now → IsRead octets (reading now))
+-- what `begun` has become took a file's octets with its reader of parts
+module _ {A T : Type 0} (reading : T → PartReading) (left : T → ℕ) (Stands : T → List ℕ → T → Type 0)
+    (fed_so : (begun : T) (octets : List ℕ) (now : T) → Stands begun octets now → (limit : ℕ) × IsFed limit octets (reading now) (left now))
     (Is : List ℕ → A → Type 0) (part_is : (octets : List ℕ) (a : A) → Is octets a → IsAPart octets)
     (Held : A → Type 0) (tells : Bool) (content : Option (List ℕ)) (held_is : (octets : List ℕ) (a : A) → Is octets a → (IsTrue tells → content ≡ Some octets) → Held a)
-    (name : List ℕ) (old new : desk.Reading) where
-  module _ (now : T) (d : Decides reading Stands tells content name old new (Ok now)) where
-    found_has : (bad : ℕ × PartFault) → fault_of (reading now) ≡ Some bad → (more : List ℕ) → HasFault (d.1.octets ++ more) bad.0 bad.1
-    found_has bad found = let read = reads_so d.1.octets now d.1.stands in subst (StandsBy read.0 d.1.octets (reading now)) found read.1
+    (name : List ℕ) (begun : T) (old new : desk.Reading) where
+  module _ (now : T) (takes : TakesFile Stands (λ (t : T). is_decided (reading t) (left t)) tells begun old new content name now) where
+    found_has : (bad : ℕ × PartFault) → fault_of (reading now) ≡ Some bad → (more : List ℕ) → HasFault (takes.octets ++ more) bad.0 bad.1
+    found_has bad found = let fed = fed_so begun takes.octets now takes.stands in subst (StandsBy fed.0 takes.octets (reading now)) found fed.1.stands
 
-    all_held : fault_of (reading now) ≡ None → IsTrue tells → content ≡ Some d.1.octets
-    all_held none told = d.1.held told ∙ ap (λ o. Some (d.1.octets ++ o)) (d.1.whole none told).0 ∙ ap Some (append-nil d.1.octets)
+    whole : fault_of (reading now) ≡ None → IsTrue tells → (new.left old.side.slots ≡ []) × IsTrue (new.ended old.side.slots)
+    whole none = let fed = fed_so begun takes.octets now takes.stands in takes.whole (still_needed fed.0 takes.octets (reading now) (left now) fed.1 none)
 
-    pub judged : (read : Result A PartRefused) → Judges Is d.1.octets read → ReadsFile Held tells content name old new (verdict_of read)
+    all_held : fault_of (reading now) ≡ None → IsTrue tells → content ≡ Some takes.octets
+    all_held none told = takes.held_is told ∙ ap (λ o. Some (takes.octets ++ o)) (whole none told).0 ∙ ap Some (append-nil takes.octets)
+
+    pub judged : (read : Result A PartRefused) → Judges Is takes.octets read → ReadsFile Held tells content name old new (verdict_of read)
     judged = by (fault_of (reading now)) refl
       where
-        by : (o : Option (ℕ × PartFault)) → fault_of (reading now) ≡ o → (read : Result A PartRefused) → Judges Is d.1.octets read
+        by : (o : Option (ℕ × PartFault)) → fault_of (reading now) ≡ o → (read : Result A PartRefused) → Judges Is takes.octets read
             → ReadsFile Held tells content name old new (verdict_of read)
-        by None none (Ok a) is = (d.0, held_is d.1.octets a is (all_held none), λ told. (d.1.whole none told).1)
-        by None none (Err (refused.Fault at fault)) has = (d.0, λ told. some_held content d.1.octets (λ o. HasFault o at fault) (all_held none told) has)
+        by None none (Ok a) is = (takes.side, held_is takes.octets a is (all_held none), λ told. (whole none told).1)
+        by None none (Err (refused.Fault at fault)) has = (takes.side, λ told. some_held content takes.octets (λ o. HasFault o at fault) (all_held none told) has)
         by None none (Err refused.Full) judges = tt
         by None none (Err refused.NoMemory) judges = tt
         by (Some bad) found (Ok a) is =
-            let of = part_is d.1.octets a is in
-            absurd (part_or_fault d.1.octets of.0 bad.0 bad.1 of.1 (subst (λ o. HasFault o bad.0 bad.1) (append-nil d.1.octets) (found_has bad found [])))
+            let of = part_is takes.octets a is in
+            absurd (part_or_fault takes.octets of.0 bad.0 bad.1 of.1 (subst (λ o. HasFault o bad.0 bad.1) (append-nil takes.octets) (found_has bad found [])))
         by (Some bad) found (Err (refused.Fault at fault)) has = (
-          d.0,
-          λ told. some_held content (d.1.octets ++ d.1.rest) (λ o. HasFault o at fault) (d.1.held told) (same_fault d.1.octets d.1.rest bad at fault has (found_has bad found)),
+          takes.side,
+          λ told. some_held content (takes.octets ++ new.left old.side.slots) (λ o. HasFault o at fault) (takes.held_is told)
+              (same_fault takes.octets (new.left old.side.slots) bad at fault has (found_has bad found)),
         )
         by (Some bad) found (Err refused.Full) judges = tt
         by (Some bad) found (Err refused.NoMemory) judges = tt
 
-  -- no more could be read
-  pub unjudged : (why : DeskFault) → Decides reading Stands tells content name old new (Err why) → ReadsFile Held tells content name old new (Err (unread_by why))
-  unjudged Failed decides = decides
-  unjudged NoMemory decides = tt
+-- no more could be read
+pub unjudged : {A : Type 0} (Held : A → Type 0) (tells : Bool) (content : Option (List ℕ)) (name : List ℕ) (old new : desk.Reading) (why : DeskFault) → FailsFile old new name why
+    → ReadsFile Held tells content name old new (Err (unread_by why))
+unjudged Held tells content name old new Failed fails = (fails.0, fails.1)
+unjudged Held tells content name old new NoMemory fails = tt
 
 -- what is held of the collector of a part, and of its octets
 module _ (tells : Bool) (content : Option (List ℕ)) where
@@ -183,11 +207,3 @@ module _ (tells : Bool) (content : Option (List ℕ)) where
     part = subst (λ o. IsPart o is.1.0) (sym is.0) is.1.1;
     is = λ told. held told ∙ ap Some (sym is.0);
   }
-
--- what failed is answered
-pub answers_done : {T A : Type 0} (old new : desk.Reading) (now : T) (result : Result A Unread) → AnswersFile {A = T} old new (Ok now) → AnswersReads {A = A} old new result
-answers_done old new now result answers other = answers (λ same. cc)
-
-pub answers_by : {T A : Type 0} (old new : desk.Reading) (why : DeskFault) → AnswersFile {A = T} old new (Err why) → AnswersReads {A = A} old new (Err (unread_by why))
-answers_by old new Failed answers other = absurd (other refl)
-answers_by old new NoMemory answers other = answers (λ same. cc)

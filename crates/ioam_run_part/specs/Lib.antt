@@ -1,5 +1,5 @@
-pub mod Deciding
 pub mod Files
+pub mod Intakes
 pub mod Joined
 pub mod KeptText
 pub mod MergePromise

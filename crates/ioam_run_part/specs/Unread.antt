@@ -1,8 +1,9 @@
 -- Files that are read as parts: of one the records, or the octets.
-use Rattle.std.specs.Prelude.{◌≡◌, ◌≢◌, ℕ, ⊤, Bool, IsTrue, IsSomeAnd, List, [], ◌∷◌, ◌++◌, Option, Some, Result, Ok, Err}
-use Rattle.ioam_desk.specs.Asked.{HaveSlots}
+use Rattle.std.specs.Prelude.{◌≡◌, ◌≢◌, ℕ, ◌+◌, ◌<◌, ◌≤◌, ⊤, Bool, IsTrue, IsSomeAnd, List, [], ◌∷◌, ◌++◌, Option, Some, Result, Ok, Err}
+use Rattle.ioam_desk.specs.Asked.{AsksFront, HaveSlots}
 use Rattle.ioam_desk.specs.Desk as desk
 use Rattle.ioam_desk.specs.Desk.{Rose, opened_side}
+use Rattle.ioam_desk.specs.Kept.{KeepsInputs}
 use Rattle.ioam_desk.specs.declared.fault.DeskFault.{DeskFault}
 use Rattle.ioam_desk.specs.declared.fault.DeskFault.TheVariants.{Failed, NoMemory}
 use Rattle.ioam_run_answer.specs.Record.{Record}
@@ -15,6 +16,7 @@ use Rattle.ioam_part.specs.declared.reader.PartRefused.{PartRefused}
 use Rattle.ioam_part.specs.declared.reader.PartRefused.TheVariants as refused
 use Rattle.ioam_run_answer.specs.declared.outcome.Outcome.{Outcome}
 use Rattle.ioam_run_answer.specs.declared.outcome.Outcome.TheVariants as outcome
+use Rattle.ioam_run_part.specs.Records.{ReadsFew}
 use Rattle.ioam_run_part.specs.declared.unread.Unread.{Unread}
 use Rattle.ioam_run_part.specs.declared.unread.Unread.TheVariants as unread
 
@@ -52,6 +54,14 @@ module _ {A : Type 0} (Held : A → Type 0) (tells : Bool) (content : Option (Li
   ReadsFile (Err (unread.Fault at fault)) = (new.side ≡ opened_side old.side name) × IsFaulty tells content at fault
   ReadsFile (Err unread.Failed) = Rose old.side.faults new.side.faults × (new.side.asked ≡ old.side.asked ++ name ∷ [])
   ReadsFile (Err unread.NoMemory) = ⊤
+
+-- whatever was answered: the name that was asked for, what is as it was, and how much was read
+pub record TriesFile (tells : Bool) (content : Option (List ℕ)) (name : List ℕ) (old new : desk.Reading) : Type 0 where
+  pub asked : AsksFront old.side.asked new.side.asked (name ∷ [])
+  pub grew : old.side.slots ≤ new.side.slots
+  pub slots : new.side.slots ≤ old.side.slots + 1
+  pub kept : KeepsInputs old new
+  pub few : old.side.slots < new.side.slots → ReadsFew tells content old.side.slots new
 
 -- what failed is answered: unless that is why the file wasn't read it was opened, where it was asked for, and no call of it failed
 abbrev pub AnswersReads : {A : Type 0} → desk.Reading → desk.Reading → Result A Unread → Type 0

@@ -2,7 +2,7 @@
 //! joined, and one printed.
 #![tactic(auto)]
 
-mod deciding;
+mod intakes;
 mod joined;
 mod kept;
 mod merge;

@@ -2,13 +2,12 @@
 ghost use Rattle.std.specs.Prelude.{◌≡◌, ◌⊎◌};
 ghost use Rattle.ioam_desk.specs.Desk.{holds};
 ghost use Rattle.ioam_run_answer.specs.declared.outcome.Outcome.{Outcome};
-ghost use Rattle.ioam_run_part.specs.Deciding.{TriesFile};
-ghost use Rattle.ioam_run_part.specs.Unread.{AnswersReads, IsFlat, IsHeld, ReadsFile, answer_of, unread_by, verdict_of};
+ghost use Rattle.ioam_run_part.specs.Unread.{AnswersReads, IsFlat, IsHeld, ReadsFile, TriesFile, answer_of, unread_by, verdict_of};
 
-use crate::deciding::read_file;
+use crate::intakes::{FlatIntake, HeldIntake};
 use ioam_base::name::Name;
 use ioam_collect::{Collector, MOST_HELD};
-use ioam_desk::{Desk, DeskFault};
+use ioam_desk::{Desk, DeskFault, read_into};
 use ioam_part::{PartFault, PartReader, PartRefused};
 use ioam_part_merge::{PartKeeper, PartOctets};
 use ioam_run_answer::Outcome;
@@ -60,8 +59,8 @@ pub(crate) fn read_held<D: Desk>(
     let Ok(reader) = PartReader::new(alloc, MOST_HELD) else {
         return Err(Unread::NoMemory);
     };
-    match read_file(alloc, desk, name, reader) {
-        Ok(reader) => verdict(reader.finish()),
+    match read_into(alloc, desk, name.text(), HeldIntake::new(reader)) {
+        Ok(intake) => verdict(intake.reader.finish()),
         Err(fault) => Err(unread_by(fault)),
     }
 }
@@ -80,8 +79,8 @@ pub(crate) fn read_flat<D: Desk>(
     let Ok(keeper) = PartKeeper::new(alloc) else {
         return Err(Unread::NoMemory);
     };
-    match read_file(alloc, desk, name, keeper) {
-        Ok(keeper) => verdict(keeper.finish()),
+    match read_into(alloc, desk, name.text(), FlatIntake::new(keeper)) {
+        Ok(intake) => verdict(intake.keeper.finish()),
         Err(fault) => Err(unread_by(fault)),
     }
 }

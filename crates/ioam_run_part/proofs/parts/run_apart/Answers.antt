@@ -4,12 +4,11 @@ use Rattle.ioam_desk.specs.Desk.{Reading, Writing, holds}
 use Rattle.ioam_desk.specs.Kept.{KeepsOutputs}
 use Rattle.ioam_run_answer.specs.Desks.{Desks, around}
 use Rattle.ioam_run_answer.specs.declared.outcome.Outcome.{Outcome}
-use Rattle.ioam_run_part.specs.Deciding.{TriesFile}
 use Rattle.ioam_run_part.specs.Files.{PartsNames}
 use Rattle.ioam_run_part.specs.KeptText.{AreLines, part_lines}
 use Rattle.ioam_run_part.specs.PartsPromise.{PartsKeeps}
 use Rattle.ioam_run_part.specs.Stored.{AnswersWrites, Stores}
-use Rattle.ioam_run_part.specs.Unread.{IsHeld, ReadsFile}
+use Rattle.ioam_run_part.specs.Unread.{IsHeld, ReadsFile, TriesFile}
 use Rattle.ioam_run_part.proofs.PartsLaws.{keeps_stored, keeps_unread}
 use Rattle.ioam_run_part.proofs.parts.run_apart.Goals as goal
 

@@ -1,7 +1,6 @@
 use Rattle.std.proofs.Common.{Ok, Err, ◌∙◌, subst}
 use Rattle.ioam_desk.specs.Desk.{Writing, holds}
-use Rattle.ioam_run_part.specs.Deciding.{TriesFile}
-use Rattle.ioam_run_part.specs.Unread.{IsFlat, ReadsFile, answer_of}
+use Rattle.ioam_run_part.specs.Unread.{IsFlat, ReadsFile, TriesFile, answer_of}
 use Rattle.ioam_run_part.proofs.FailuresLaws.{read_failed}
 use Rattle.ioam_run_part.proofs.TwoLaws.{either_refuses, first_refuses, first_tries, second_answers, second_refuses, second_tries, holds_two}
 use Rattle.ioam_run_part.proofs.two.read_two.Goals as goal
