@@ -1,3 +1,3 @@
-pub mod InputsLaws
+pub mod FilesLaws
 pub mod ListLaws
 pub mod MergeLaws

@@ -67,3 +67,10 @@ module _ {A : Type 0} where
   each-zip R zero from f g all = tt
   each-zip R (suc n) from f g all =
       (all from (omega arith) (omega arith), each-zip R n (suc from) f g (λ k least below. all k (omega (arith, least)) (omega (arith, below))))
+
+  pub each-same : (n from : ℕ) (f g : ℕ → A) → ((k : ℕ) → f k ≡ g k) → each n from f ≡ each n from g
+  each-same zero from f g same = refl
+  each-same (suc n) from f g same =
+      let first = same from in
+      let others = each-same n (suc from) f g same in
+      cc

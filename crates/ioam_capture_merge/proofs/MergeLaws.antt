@@ -29,15 +29,15 @@ use Rattle.ioam_capture.proofs.StreamsLaws.{Streams-take, due-packet}
 use Rattle.ioam_capture.proofs.TurnLaws.{next_due, turn_says}
 use Rattle.ioam_capture_merge.specs.Capture.{Lane, IsDue, most_taken}
 use Rattle.ioam_capture_merge.specs.Merging.{Begins}
-use Rattle.ioam_capture_merge.specs.Merge.{AreKnown, ArriveOf, Comes, Covered, IsEnded, IsFed, IsShort, Merging, ShowsOne, Turns, part, parts, room_of, wholes}
+use Rattle.ioam_capture_merge.specs.Merge.{AreKnown, ArriveOf, Comes, Covered, IsEnded, IsFed, IsShort, Merging, ShowsOne, Turns, ended_at, part, parts, room_of, wholes}
 use Rattle.ioam_capture_merge.specs.declared.capture.Capture.{Capture}
 use Rattle.ioam_capture_merge.specs.declared.merge.Merge.{Merge}
-use Rattle.ioam_capture_merge.proofs.ListLaws.{each-get, each-length, each-zip, get-inside, get-push, get-set, get-set_here, set-length, within}
+use Rattle.ioam_capture_merge.proofs.ListLaws.{each-get, each-length, each-same, each-zip, get-inside, get-push, get-set, get-set_here, set-length, within}
 
 -- ---- what was taken first
 
 -- of any captures nothing is taken first
-Begins-none : (captures : List Handed) → Begins captures []
+pub Begins-none : (captures : List Handed) → Begins captures []
 Begins-none captures =
     let (taken, last, arrives) = Arrives-total captures in
     record { streams = arrives.streams; now = arrives.streams; shown = arrives.shown; takes = refl }
@@ -147,6 +147,12 @@ below_other k place below other = elim (cases_eq k place) [
 
 -- ---- what was handed out
 
+-- whether one of some captures has ended
+ended_there : (captures : List Capture) (k : ℕ) (capture : Capture) → slice_get captures k ≡ Some capture → ended_at captures k ≡ capture.ended
+ended_there [] k capture is = absurd (none-some capture is)
+ended_there (c ∷ cs) zero capture is = ap (λ (x : Capture). x.ended) (same_Some c capture is)
+ended_there (c ∷ cs) (suc k) capture is = ended_there cs k capture is
+
 same_part : {xs ys : List ℕ} {a b : Bool} → xs ≡ ys → a ≡ b → ◌≡◌ {A = Handed} (record { octets = xs; ended = a }) (record { octets = ys; ended = b })
 same_part octets ended = cc
 
@@ -161,6 +167,15 @@ module _ (n : ℕ) (fed : ℕ → List ℕ) (ended : ℕ → Bool) where
           let whole = covered.whole k inside end in
           let both : ◌≡◌ {A = Handed} (record { octets = contents k; ended = true }) (record { octets = fed k; ended = ended k }) = cc in
           inr both
+
+  -- and hands out as much where nothing was handed out since
+  pub parts_on : (after_fed : ℕ → List ℕ) (after_ended : ℕ → Bool) → ((k : ℕ) → after_fed k ≡ fed k) → ((k : ℕ) → after_ended k ≡ ended k)
+      → AllZip HandsOn (parts n fed ended) (parts n after_fed after_ended)
+  parts_on after_fed after_ended same ends = each-zip HandsOn n 0 (part fed ended) (part after_fed after_ended) (λ k least below. inr (same_part (same k) (ends k)))
+
+  pub parts_same : (after_fed : ℕ → List ℕ) (after_ended : ℕ → Bool) → ((k : ℕ) → after_fed k ≡ fed k) → ((k : ℕ) → after_ended k ≡ ended k)
+      → parts n after_fed after_ended ≡ parts n fed ended
+  parts_same after_fed after_ended same ends = each-same n 0 (part after_fed after_ended) (part fed ended) (λ k. same_part (same k) (ends k))
 
   pub wholes_on : (contents : ℕ → List ℕ) → Covered n fed ended contents → AllZip HandsOn (parts n fed ended) (wholes n contents)
   wholes_on contents covered = each-zip HandsOn n 0 (part fed ended) (part contents (λ k. true)) (λ k least below. part_whole contents covered k (omega (arith, below)))
@@ -189,7 +204,17 @@ module _ (n : ℕ) (fed : ℕ → List ℕ) (ended : ℕ → Bool) where
         let more : slice_get (map due_of begins.now) k ≡ Some More = get_map due_of begins.now k s there ∙ ap Some (sym (due s shows)) in
         turn_unshown (map due_of begins.now) k (turn begins.now) more (turn_says (map due_of begins.now))
 
+    -- of what was handed out all was taken that it shows
+    pub arrives_unshown : (k : ℕ) → k < n → IsDue (part fed ended k) (of_capture k taken) More → Arrives (parts n fed ended) taken Unshown
+    arrives_unshown k inside due = Begins-all (parts n fed ended) taken begins Unshown (unshown k inside due) (λ next. next)
+
   module _ (taken : List Arrival) (merge : Merge) (merging : Merging n fed ended taken merge) where
+    -- which of them have ended
+    pub ended_are : (k : ℕ) → k < n → ended k ≡ ended_at merge.captures.items k
+    ended_are k inside =
+        let (capture, there) = get-inside merge.captures.items k (omega (arith, inside, merging.captures)) in
+        (merging.lanes k capture there).same_end ∙ sym (ended_there merge.captures.items k capture there)
+
     -- the turn, where it is known what is due of each
     turn_is : AreKnown n merge → turn_of merge.dues.items ≡ turn merging.begins.now
     turn_is known = ap turn_of (dues_same merge.dues.items merging.begins.now (omega (arith, streams_sized taken merging.begins, merging.dues)) same)

@@ -1,4 +1,3 @@
 pub mod Capture
-pub mod Inputs
 pub mod Merge
 pub mod Merging

@@ -56,6 +56,12 @@ module _ (n : ℕ) (fed : ℕ → List ℕ) (ended : ℕ → Bool) (taken : List
     pub known : (k : ℕ) (due : Due) → slice_get merge.dues.items k ≡ Some due → (due ≡ More → ⊥) → IsDue (part fed ended k) (of_capture k taken) due
     pub begins : Begins (parts n fed ended) taken
 
+-- whether each of these captures has ended
+abbrev pub ended_at : List Capture → ℕ → Bool
+ended_at [] k = false
+ended_at (capture ∷ captures) zero = capture.ended
+ended_at (capture ∷ captures) (suc k) = ended_at captures k
+
 -- how many octets of captures may still be handed out, and how many ends
 abbrev pub room_of : List Capture → ℕ
 room_of [] = 0

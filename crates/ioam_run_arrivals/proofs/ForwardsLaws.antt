@@ -6,6 +6,8 @@ use Rattle.std.proofs.lemmas.List.{map-append}
 use Rattle.std.proofs.lemmas.List.Elements.{All-nil, All-cons, All-append, All-from_get_or, All-weaker}
 use Rattle.std.proofs.lemmas.List.Sums.{count_by-le-length}
 use Rattle.std.proofs.lemmas.Option.{get_or_from_slice_get}
+use Rattle.std.proofs.lemmas.Bool.{true≢false}
+use Rattle.ioam_batch.specs.Batches as batches
 use Rattle.ioam_batch.specs.Jobs.{HasRun, Holds, IsFresh}
 use Rattle.ioam_batch.specs.declared.job.Job.{Job}
 use Rattle.ioam_clock.specs.declared.sample.Sample.{Sample}
@@ -27,7 +29,7 @@ use Rattle.ioam_run_outputs.specs.Outlets.{tapped}
 use Rattle.ioam_topo.specs.Domain.{flows, links, nodes}
 use Rattle.ioam_topo.specs.declared.domain.Domain.{Domain}
 use Rattle.ioam_topo.specs.declared.ids.FlowId.{FlowId}
-use Rattle.ioam_run_arrivals.specs.Forwarding.{Arrived, AreOfJobs, Forwards, Forwarded, IsOf, IsWaiting}
+use Rattle.ioam_run_arrivals.specs.Forwarding.{Arrived, AreOfJobs, Forwards, Forwarded, IsOf, IsWaiting, NoneWaits, has_room}
 use Rattle.ioam_run_arrivals.specs.declared.forwarding.Forwarding.{Forwarding}
 use Rattle.ioam_run_arrivals.proofs.CleanLaws.{texts-clean}
 use Rattle.ioam_run_arrivals.proofs.TellsLaws.{AllZip-length}
@@ -251,3 +253,9 @@ Forwards-ends domain gathered none sums opens readings frames so_far forwards =
       clean = λ opened. texts-clean domain readings frames forwards.told (λ link. tap_text domain readings link forwards.told)
           (report_text domain readings forwards.told) (exports_text domain readings forwards.told) (said_more so_far added) are (whole opened);
     }
+
+-- ---- a full batch
+
+-- some wait where no more may
+pub full-waits : (gathered : Forwarding) → has_room gathered ≡ false → NoneWaits gathered → ⊥
+full-waits gathered full none = true≢false (sym (ap batches.has_room none) ∙ full)

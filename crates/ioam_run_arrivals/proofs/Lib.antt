@@ -1,5 +1,6 @@
 pub mod CleanLaws
 pub mod ForwardsLaws
+pub mod FrontsLaws
 pub mod OneFateLaws
 pub mod TextsLaws
 mod AddingLaws

@@ -1,8 +1,8 @@
 //! The texts of a run, gathered batch by batch.
-ghost use Rattle.std.specs.Prelude.{◌≡◌, ◌+◌, ◌<◌, ◌≤◌, ◌^◌, ◌∷◌, ◌++◌, [], Bool, IsTrue, List, ℕ, IfOk, OnOk, length};
+ghost use Rattle.std.specs.Prelude.{◌≡◌, ◌↔◌, ◌+◌, ◌<◌, ◌≤◌, ◌^◌, ◌∷◌, ◌++◌, [], Bool, IsTrue, List, ℕ, OnOk, length};
 ghost use Rattle.ioam_clock.specs.declared.sample.Sample.{Sample};
 ghost use Rattle.ioam_run_texts.specs.Fate.{Frame};
-ghost use Rattle.ioam_run_texts.specs.Texts.{sums_by, texts_so_far};
+ghost use Rattle.ioam_run_texts.specs.Texts.{sums_by};
 ghost use Rattle.ioam_run_outputs.specs.Outlets.{outlet_count};
 ghost use Rattle.ioam_desk_outputs.specs.Told.{Adds, said_more};
 ghost use Rattle.ioam_pcap.specs.Entries.{most};
@@ -18,7 +18,6 @@ use ioam_desk_outputs::Output;
 use ioam_plan::Counters;
 use ioam_report::{Sums, put_sums};
 use ioam_run_outputs::place_of_report;
-use ioam_run_texts::put_heads;
 use ioam_topo::{Domain, LinkId};
 use std::alloc::Global;
 use std::thread::Threads;
@@ -42,29 +41,18 @@ pub struct Forwarding {
 }
 
 impl Forwarding {
-    /// Begins the texts in a domain: the output of each port and of each tap gets the head of a capture.
-    /// Without memory some of them may have it.
-    pub fn begin(
-        alloc: Global,
-        domain: &Domain,
-        outputs: &mut [Output],
-    ) -> Result<Forwarding, NoMemory>
-        requires width { length outputs.old ≡ outlet_count domain.now }
-        ensures of { IfOk result (IsOf domain.now) }
-        ensures counted { IfOk result (λ gathered. taken gathered ≡ 0) }
-        ensures adds { OnOk result ((readings : List (List Sample)) → Adds outputs.old outputs.new (texts_so_far domain.now readings [])) }
-        ensures gathers { IfOk result (λ gathered. (opens : Bool) (readings : List (List Sample))
-            → Forwards opens domain.now readings [] (texts_so_far domain.now readings []) gathered) }
-    {
-        put_heads(domain, outputs)?;
-        Forwarding::start(alloc, domain)
-    }
-
     /// How many arrivals were taken.
     pub fn taken(&self) -> u64
         ensures { result ≡ taken self.now }
     {
         self.sums.packets
+    }
+
+    /// Whether no arrival waits.
+    pub fn none_waits(&self) -> bool
+        ensures { IsTrue result ↔ NoneWaits self.now }
+    {
+        self.batch.jobs().is_empty()
     }
 
     /// Whether one more arrival may be taken before what waits is told.

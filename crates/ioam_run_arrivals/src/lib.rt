@@ -11,3 +11,5 @@ pub use arriving::Arrival;
 pub use forwarding::Forwarding;
 // What its caller hands it: whether workers may begin.
 pub use ioam_batch::{Gate, OpenGate};
+// What the outputs are told before the first arrival.
+pub use ioam_run_texts::put_heads;

@@ -1,7 +1,7 @@
-pub mod FrontsLaws
 pub mod RunsLaws
-pub mod StopsLaws
-pub mod BeginLaws
+mod ProgressLaws
+mod StepsLaws
+mod RanLaws
 -- of the crates below, for the crates above
 pub use Rattle.ioam_capture.proofs.ArrivesLaws
 pub use Rattle.ioam_capture.proofs.MergeLaws

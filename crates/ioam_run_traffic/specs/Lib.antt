@@ -1,5 +1,7 @@
 pub mod Traffic
-pub mod Running
+pub mod Progress
+pub mod Stage
+pub mod StageLaws
 -- of the crates below, for the crates above
 pub use Rattle.ioam_capture.specs.Arrives
 pub use Rattle.ioam_capture.specs.Merge

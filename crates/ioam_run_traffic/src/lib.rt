@@ -4,10 +4,9 @@
 
 mod halt;
 mod progress;
-mod rest;
+mod stage;
 mod terms;
 mod traffic;
-mod turns;
 
 pub use halt::Halt;
 // What its caller hands it: whether workers may begin.

@@ -1,22 +1,19 @@
 //! What the traffic of a domain goes by.
 use ioam_clock::Readings;
-use ioam_run_arrivals::Gate;
 use ioam_topo::{Domain, PortId};
-use std::thread::Threads;
 
 /// What the traffic of a domain goes by, from the first arrival to the last.
 #[derive(Drop)]
-pub struct Terms<'a, R: Threads + Sync, G: Gate> {
-    /// Starts the threads of the workers.
-    pub rt: &'a R,
-    /// How many workers run the jobs, 1 to 64.
-    pub workers: u32,
-    /// What each of them asks before its jobs.
-    pub gate: &'a G,
+pub(crate) struct Terms<'a, F, G> {
+    /// Runs the jobs that wait and appends what they leave to the outputs. It is a closure, since a trait's method can't start
+    /// threads under a bound on a gate.
+    pub(crate) tell: &'a F,
+    /// What each worker asks before its jobs.
+    pub(crate) gate: &'a G,
     /// The domain.
-    pub domain: &'a Domain,
+    pub(crate) domain: &'a Domain,
     /// The readings of its nodes.
-    pub readings: &'a Readings,
+    pub(crate) readings: &'a Readings,
     /// The ports that have a capture, in the order of the captures.
-    pub ports: &'a [PortId],
+    pub(crate) ports: &'a [PortId],
 }

@@ -1,5 +1,3 @@
-//! Captures that are read in pieces: their reader and writer (`ioam_pcap`), and several merged by time
-//! (`ioam_capture_merge`), a file for each.
+//! Captures that are read in pieces: their reader and writer (`ioam_pcap`).
 mod captures;
-mod merge;
 mod pcap;

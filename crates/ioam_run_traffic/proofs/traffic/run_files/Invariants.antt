@@ -1,4 +1,0 @@
-use Rattle.ioam_run_traffic.proofs.traffic.run_files.Given as goal
-
-abbrev pub ghost-run_open : goal.ghost-run_open
-ghost-run_open g a = g.files
