@@ -1,0 +1,3 @@
+pub mod NextLaws
+pub mod PacketLaws
+pub mod TraceLaws

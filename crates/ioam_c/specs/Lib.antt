@@ -1,0 +1,10 @@
+pub mod Direct
+pub mod Edge
+pub mod Element
+pub mod Fill
+pub mod Next
+pub mod Packet
+pub mod Part
+pub mod Record
+pub mod Status
+pub mod Trace
