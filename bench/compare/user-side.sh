@@ -303,7 +303,10 @@ live() { # live DROPPED FILE WORD..: the file of the words that read `live` is t
 }
 live 1 report paths live report && live 1 report show live report && live 1 report filter live out report && live 0 out save live out
 first examples/audit/after.pcap && live 9 report audit examples/one-node/domain.toml three two-three examples/audit/before.pcap live report
-rm -f out report one.pcap
+# A port's capture is a live pipe: `run` reports its packet before the next comes.
+first examples/three/west.pcap && for name in live one.pcap; do with_domain in "$name" && mv domain.toml "$name.toml"; done
+live 5 report run live.toml "$readings" 1 report exports
+rm -f out report one.pcap exports west-out.pcap east-out.pcap bc.pcap live.toml one.pcap.toml
 
 # What crosses ab comes to b, and what b sends is what crosses bc: with no delay on ab at the same times. Files named as NODE and LINK.
 sed 's/delay = 1000, mtu = 1500 }/delay = 0, mtu = 1500, tap = "ab.pcap" }/' "$domain" >domain.toml
