@@ -3,7 +3,7 @@ use Rattle.std.proofs.Common.{◌≡◌, ℕ, ◌+◌, ◌<◌, ◌≤◌, Bool,
 use Rattle.std.proofs.lemmas.List.Elements.{All-nil, All-cons, All-weaker, All-append, Contains-append_left, Contains-append_right}
 use Rattle.ioam_desk.specs.Desk.{Side, Reading, Writing, Held, FailsToOpen, Fails, opened_side, holds, OpenIn, ReadInto, OpenOut, Grows}
 use Rattle.ioam_desk.specs.Kept.{KeepsInputs, KeepsOutputs}
-use Rattle.ioam_desk.specs.Touches.{State, Footprint, read_of, write_to, opening, Failing, Quiet, Input, Output, Read, Late, failing_open, failing_read, failing_out, failing_write, after_read, IsFine, Broke, Loose, HowIn, HowOut, TouchesIn, TouchesOut, Touches, Within}
+use Rattle.ioam_desk.specs.Touches.{State, AnswersFailing, Footprint, read_of, write_to, opening, Failing, Quiet, Input, Output, Read, Late, failing_open, failing_read, failing_out, failing_write, after_read, IsFine, Broke, Loose, HowIn, HowOut, TouchesIn, TouchesOut, Touches, Within}
 use Rattle.ioam_desk.specs.declared.fault.DeskFault.{DeskFault}
 use Rattle.ioam_desk.specs.Whole.{WritesSide}
 use Rattle.ioam_desk.specs.declared.fault.DeskFault.TheVariants.{Failed, NoMemory}
@@ -350,3 +350,23 @@ pub touches-unasked_out : (tells : Bool) (f : Footprint) (x : Failing) (old new 
 touches-unasked_out tells f x old new none t =
     let empty = no_names t.outputs.asked (subst (λ (names : List (List ℕ)). All (Contains names) t.outputs.asked) none t.outputs.among) in
     t.outputs.asks ∙ ap (λ (asked : List (List ℕ)). old.outputs.side.asked ++ asked) empty ∙ append-nil old.outputs.side.asked
+
+-- what failed is answered
+pub touches-failing : (tells : Bool) (f : Footprint) (x : Failing) (old new : State) → Touches tells f x old new → AnswersFailing x old new
+touches-failing tells f Quiet old new t = record { opens = λ other. t.inputs.how.slots; reads = λ quiet. t.inputs.how.faults; writes = λ other. t.outputs.how.faults }
+touches-failing tells f Input old new t = record { opens = λ other. absurd (other refl); reads = λ quiet. absurd (input_quiet quiet); writes = λ other. t.outputs.how.faults }
+  where
+    input_quiet : Input ≡ Quiet → ⊥
+    input_quiet same = cc
+touches-failing tells f Read old new t = record { opens = λ other. t.inputs.how.slots; reads = λ quiet. absurd (read_quiet quiet); writes = λ other. t.outputs.how.faults }
+  where
+    read_quiet : Read ≡ Quiet → ⊥
+    read_quiet same = cc
+touches-failing tells f Output old new t = record { opens = λ other. t.inputs.how.slots; reads = λ quiet. absurd (output_quiet quiet); writes = λ other. absurd (other refl) }
+  where
+    output_quiet : Output ≡ Quiet → ⊥
+    output_quiet same = cc
+touches-failing tells f Late old new t = record { opens = λ other. t.inputs.how.slots; reads = λ quiet. absurd (late_quiet quiet); writes = λ other. t.outputs.how.faults }
+  where
+    late_quiet : Late ≡ Quiet → ⊥
+    late_quiet same = cc

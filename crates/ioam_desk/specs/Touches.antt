@@ -140,3 +140,10 @@ pub record Within (f g : Footprint) : Type 0 where
   pub writes : (k : ℕ) → f.writes k → g.writes k
   pub ins : (name : List ℕ) → Contains f.ins name → Contains g.ins name
   pub outs : (name : List ℕ) → Contains f.outs name → Contains g.outs name
+
+-- A failed call is answered: each input that was asked for was opened unless a call on an input failed, and the counts of
+-- faults are the old ones if no call failed, or none on an output.
+pub record AnswersFailing (x : Failing) (old new : State) : Type 0 where
+  pub opens : (x ≡ Input → ⊥) → HaveSlots old.inputs.side new.inputs.side
+  pub reads : x ≡ Quiet → new.inputs.side.faults ≡ old.inputs.side.faults
+  pub writes : (x ≡ Output → ⊥) → new.outputs.side.faults ≡ old.outputs.side.faults
