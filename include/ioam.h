@@ -38,10 +38,11 @@ enum ioam_status {
     IOAM_NODE_LEN = 7,      /* of a trace: NodeLen is not right for the type */
     IOAM_ELEMENT = 8,       /* of a trace: the used words are not whole elements */
     IOAM_RECORD = 9,        /* the octets are not one export record */
-    IOAM_VIEW = 10,         /* a number of a view exceeds its limit */
+    IOAM_VIEW = 10,         /* a number of a view, or a node id, exceeds its limit */
     IOAM_OVERFLOWED = 11,   /* the element didn't fit, and Overflow is set now */
     IOAM_ALREADY_OVER = 12, /* Overflow was set, and nothing changed */
-    IOAM_UNSUITED = 13      /* no trace to which a node adds an element, and nothing changed */
+    IOAM_UNSUITED = 13,     /* no trace to which a node adds an element, and nothing changed */
+    IOAM_ILLEGAL = 14       /* no node of which this is known may have made these octets of the others */
 };
 
 /* IOAM-Option-Types (RFC 9197 section 7.1, RFC 9326 section 3). */
@@ -203,6 +204,17 @@ struct ioam_view {
  * nothing changed.
  */
 uint32_t ioam_fill(uint8_t *data, size_t n, const struct ioam_view *view);
+
+/*
+ * The judge: whether a node may have made the octets of a pre-allocated trace of those with which it came (RFC 9197 section 4.4), if all
+ * that is known of the node is its id, the hop limit with which it sent the packet on, and the interface by which the packet came.
+ * Whatever else it knows, a node that may add adds its element, or sets Overflow if the element doesn't fit, or, if the type has
+ * undefined bits, leaves the octets alone; other octets stay as they are.
+ *
+ * IOAM_OK: it may. IOAM_ILLEGAL: it may not; so it is if n differs from old_n. IOAM_VIEW: node_id is 2^56 or more.
+ */
+uint32_t ioam_may_become(const uint8_t *old, size_t old_n, const uint8_t *data, size_t n, uint8_t hop_limit, uint64_t node_id,
+                         uint32_t ingress);
 
 /* ---- Edge-to-edge data (RFC 9197 section 4.6). The octets are those after the IOAM-Option-Type. ---- */
 

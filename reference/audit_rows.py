@@ -144,15 +144,23 @@ def check():
 def sweep(count, seed):
     """Decides so many random data, by rules and by trying; how many a node may have made."""
     rng = random.Random(seed)
-    maker, lawful = audit_random.Maker(rng, read_domain(DOMAIN.encode()), 1, 0, Aim()), 0
-    for _ in range(count):
-        maker.ident, maker.inward = rng.choice((0, 2, 2**24 - 1, 2**24, 2**56 - 1)), rng.choice((0, 21, 65_535, 65_536, 2**32 - 1))
-        hops, old = rng.choice((1, 63, 254)), maker.small_trace()
-        new = maker.filled(old, hops)
-        if rng.random() < 0.6:
-            new = maker.spoiled_data(new, hops)
-        lawful += may_become(Sight(hops, maker.ident, maker.inward), old, new)
-    return lawful
+    maker = random_maker(rng)
+    return sum(may_become(*random_step(rng, maker)) for _ in range(count))
+
+
+def random_maker(rng):
+    """What makes the data of random traces."""
+    return audit_random.Maker(rng, read_domain(DOMAIN.encode()), 1, 0, Aim())
+
+
+def random_step(rng, maker):
+    """What is known of a node, the data of a trace, and what the node made of them, spoiled in three of five."""
+    maker.ident, maker.inward = rng.choice((0, 2, 2**24 - 1, 2**24, 2**56 - 1)), rng.choice((0, 21, 65_535, 65_536, 2**32 - 1))
+    hops, old = rng.choice((1, 63, 254)), maker.small_trace()
+    new = maker.filled(old, hops)
+    if rng.random() < 0.6:
+        new = maker.spoiled_data(new, hops)
+    return Sight(hops, maker.ident, maker.inward), old, new
 
 
 if __name__ == "__main__":

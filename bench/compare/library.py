@@ -1,11 +1,12 @@
 #!/usr/bin/env python3
-"""Compares the library, through C and through Python, with the program and with a second writing of the rules (model/).
+"""Compares the library, through C and through Python, with the program and with a second writing of the rules (reference/).
 
     bench/compare/library.py [COUNT [SEED]]
 
 The packets of the shipped captures, those of the suite among them, and COUNT (100,000) random ones: what `ioam show` says of them, what
 library.c says by the calls of include/ioam.h, and what Python says by examples/python/ioam_c.py: one text. COUNT random traces, each
-filled by a node that knows at random: what the library makes of them and what the model does; and as many export records, whole and
+filled by a node that knows at random, and as many judged that some node made of others, or someone spoiled: what the library makes of
+them and what the model does; and as many export records, whole and
 broken: what the library reads and what the model does. library.sh builds what this needs, and names it in IOAM_LIBRARY and
 LIBRARY_SHOW. Anything that differs is kept, and the status is 1."""
 import os
@@ -17,8 +18,10 @@ import tempfile
 HERE = os.path.dirname(os.path.abspath(__file__))
 TOP = os.path.dirname(os.path.dirname(HERE))
 sys.dont_write_bytecode = True
-sys.path[:0] = [os.path.join(HERE, "model"), os.path.join(TOP, "examples", "python")]
+sys.path[:0] = [os.path.join(TOP, "reference"), os.path.join(TOP, "examples", "python")]
 
+import audit_data  # noqa: E402
+import audit_rows  # noqa: E402
 import exports_random  # noqa: E402
 import exports_records  # noqa: E402
 import foreign_random  # noqa: E402
@@ -190,6 +193,15 @@ def fill_differs(rng, aim):
     return None if (came, status) == (wanted, DONE[note.split()[0]]) else ("fill", octets, view, came, status)
 
 
+def judge_differs(rng, maker):
+    sight, old, new = audit_rows.random_step(rng, maker)
+    wanted = audit_data.may_become(sight, old, new)
+    if rng.random() < 0.02:
+        new, wanted = new[:rng.randint(0, len(new) - 1)], False
+    came = ioam_c.may_become(old, new, sight.hops, sight.ident, sight.inward)
+    return None if came == wanted else ("judge", vars(sight), old, new, came)
+
+
 def record_differs(rng):
     octets = exports_random.exports(rng, 1)
     if rng.random() < 0.1:
@@ -223,12 +235,13 @@ def main():
                 wrong += 1
                 pairs = zip(wanted.split(b"\n"), text.split(b"\n"))
                 print(f"through {name}: ", next((pair for pair in pairs if pair[0] != pair[1]), "another length"))
+    maker = audit_rows.random_maker(rng)
     for _ in range(count):
-        for said in (fill_differs(rng, aim), record_differs(rng)):
+        for said in (fill_differs(rng, aim), judge_differs(rng, maker), record_differs(rng)):
             if said is not None:
                 wrong += 1
                 print(*said)
-    print(f"{len(packets)} packets, {count} traces filled, {count} records: " + ("nothing differs" if wrong == 0 else f"{wrong} differ"))
+    print(f"{len(packets)} packets, {count} traces filled and judged, {count} records: " + ("nothing differs" if wrong == 0 else f"{wrong} differ"))
     sys.exit(wrong != 0)
 
 

@@ -17,7 +17,7 @@ from ctypes import POINTER, Structure, byref, c_size_t, c_uint8, c_uint16, c_uin
 PREALLOCATED_TRACE, INCREMENTAL_TRACE, PROOF_OF_TRANSIT, EDGE_TO_EDGE, DIRECT_EXPORT = range(5)
 OVERFLOW = 8
 STATUSES = ("ok", "end", "not-ipv6", "length", "chain", "short", "space", "node-len", "element", "record", "view", "overflowed",
-            "already-over", "unsuited")
+            "already-over", "unsuited", "illegal")
 OK, END = 0, 1
 
 
@@ -98,6 +98,7 @@ _heads = {PREALLOCATED_TRACE: _call("ioam_trace_head", *_octets, POINTER(TraceHe
 _elements = {PREALLOCATED_TRACE: _call("ioam_trace_element", *_octets, POINTER(c_size_t), POINTER(Element)),
              INCREMENTAL_TRACE: _call("ioam_incremental_element", *_octets, POINTER(c_size_t), POINTER(Element))}
 _fill = _call("ioam_fill", ctypes.c_void_p, c_size_t, POINTER(View))
+_may_become = _call("ioam_may_become", *_octets, *_octets, c_uint8, c_uint64, c_uint32)
 _edge = _call("ioam_edge_read", *_octets, POINTER(Edge))
 _direct = _call("ioam_direct_read", *_octets, POINTER(Direct))
 _record = _call("ioam_record_read", *_octets, POINTER(Record))
@@ -180,6 +181,15 @@ def fill(octets, **known):
     if STATUSES[status] == "view":
         raise IoamError(status)
     return bytes(room)[:len(octets)], STATUSES[status]
+
+
+def may_become(old, octets, hop_limit, node_id, ingress):
+    """Whether a node with this id may have made a trace's octets of the old ones, if it sent the packet on with hop_limit, and the packet
+    came to it by the interface ingress."""
+    status = _may_become(old, len(old), octets, len(octets), hop_limit, node_id, ingress)
+    if STATUSES[status] == "view":
+        raise IoamError(status)
+    return status == OK
 
 
 def edge(octets):

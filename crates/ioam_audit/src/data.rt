@@ -22,8 +22,9 @@ fn is_changed(sight: Sight, old: &[u8], new: &[u8]) -> bool
     is_refused(old, new) || is_added(sight, old, new) || is_overflow(old, new)
 }
 
-/// Whether the octets of a trace, those behind the IOAM-Option-Type, may have become these.
-pub(crate) fn may_become(sight: Sight, old: &[u8], new: &[u8]) -> bool
+/// Whether a node of which `sight` is known may have made the octets `new` of a pre-allocated trace `old`, both those after the
+/// IOAM-Option-Type (RFC 9197 section 4.4). Octets that are no trace to which a node may add stay as they are.
+pub fn may_become(sight: Sight, old: &[u8], new: &[u8]) -> bool
     requires same { length new.now ≡ length old.now }
     ensures { IsTrue result ↔ MayBecome sight.hops sight.id sight.inward old.now new.now }
 {

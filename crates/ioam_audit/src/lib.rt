@@ -12,4 +12,6 @@ mod parts;
 mod sent;
 mod sight;
 
+pub use data::may_become;
 pub use sent::legal;
+pub use sight::Sight;

@@ -3,21 +3,21 @@ ghost use Rattle.std.specs.Prelude.{◌≡◌, ◌<◌, ◌^◌};
 
 /// What is known of a node that sent a packet on.
 #[derive(Clone, Copy, Debug)]
-pub(crate) struct Sight {
+pub struct Sight {
     /// The hop limit with which it sent the packet on.
-    pub(crate) hops: u8,
+    pub hops: u8,
     /// Its id, below 2^56.
-    pub(crate) id: u64,
+    pub id: u64,
     /// The interface by which the packet came.
-    pub(crate) inward: u32,
-    pub(crate) ghost hops_below: { hops < 2 ^ 8 },
-    pub(crate) ghost id_below: { id < 2 ^ 56 },
-    pub(crate) ghost inward_below: { inward < 2 ^ 32 },
+    pub inward: u32,
+    pub ghost hops_below: { hops < 2 ^ 8 },
+    pub ghost id_below: { id < 2 ^ 56 },
+    pub ghost inward_below: { inward < 2 ^ 32 },
 }
 
 impl Sight {
-    // Of a node of this id.
-    pub(crate) fn new(hops: u8, id: u64, inward: u32) -> Sight
+    /// Of a node of this id, which sent the packet on with the hop limit `hops`, and to which it came by the interface `inward`.
+    pub fn new(hops: u8, id: u64, inward: u32) -> Sight
         requires { id < 2 ^ 56 }
         ensures hops { result.hops ≡ hops }
         ensures id { result.id ≡ id }

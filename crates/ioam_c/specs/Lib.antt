@@ -2,6 +2,7 @@ pub mod Direct
 pub mod Edge
 pub mod Element
 pub mod Fill
+pub mod Judge
 pub mod Next
 pub mod Packet
 pub mod Part

@@ -6,6 +6,7 @@ pub mod direct;
 pub mod edge;
 pub mod element;
 pub mod fill;
+pub mod judge;
 pub mod next;
 pub mod packet;
 pub mod part;

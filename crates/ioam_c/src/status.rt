@@ -46,6 +46,9 @@ pub const ALREADY_OVER: u32 = 12;
 /// The octets are no trace to which a node adds an element.
 pub const UNSUITED: u32 = 13;
 
+/// No node of which this is known may have made these octets of the others.
+pub const ILLEGAL: u32 = 14;
+
 // The status that names a trace's fault.
 pub(crate) fn fault_status(fault: TraceFault) -> u32
     ensures { result ≡ fault_status fault }
