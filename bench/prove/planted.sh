@@ -10,7 +10,7 @@
 set -u
 top=$(cd "$(dirname "${BASH_SOURCE[0]}")/../.." && pwd)
 if [ $# = 0 ]; then
-    mapfile -t names < <(awk -F: '/^ioam_/ { print $1 }' "$top/crates.txt" | grep -vE '^ioam_test_')
+    mapfile -t names < <(awk -F'[: ]' '/^ioam_/ { print $1 }' "$top/crates.txt" | grep -vE '^ioam_test_')
     set -- "${names[@]}"
 fi
 
