@@ -1,3 +1,3 @@
+pub mod ElementLaws
 pub mod NextLaws
-pub mod PacketLaws
 pub mod TraceLaws

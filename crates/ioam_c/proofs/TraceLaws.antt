@@ -8,11 +8,13 @@ use Rattle.std.proofs.lemmas.List.{length-drop, length-take-le, drop-take, drop-
 use Rattle.ioam_base.specs.Leads.{Leads}
 use Rattle.ioam_trace.specs.Area.{behind, element_at, Runs, Holds}
 use Rattle.ioam_data.specs.Elements.{Stands, IsElement}
+use Rattle.ioam_data.specs.Fields.{fields_of}
 use Rattle.ioam_trace.specs.Head.{remaining_of}
 use Rattle.ioam_trace.specs.Read.{Carries, TraceOf, IsHead, used_behind}
 use Rattle.ioam_trace.specs.declared.head.TraceHead.{TraceHead}
 use Rattle.ioam_trace.proofs.AreaLaws.{Runs-take}
-use Rattle.ioam_c.specs.Element.{shown}
+use Rattle.ioam_c.specs.Element.{shown, Places}
+use Rattle.ioam_c.proofs.ElementLaws.{places}
 use Rattle.ioam_c.specs.Trace.{Gives, IsOldest, octets_of}
 use Rattle.ioam_c.specs.declared.element.IoamElement.{IoamElement}
 
@@ -112,11 +114,11 @@ module _ (free : ℕ) (octets : List ℕ) (head : TraceHead) (oldest : List ℕ)
 
 -- an element that was found is given
 pub Gives-oldest : (free : ℕ) (octets : List ℕ) (head : TraceHead) (elements : List (List ℕ)) (oldest : List ℕ) (cursor : ℕ) (old : IoamElement) (next : ℕ) (new : IoamElement) (status : ℕ)
-    → Carries free octets head elements → IsOldest elements (Some oldest)
+    → Carries free octets head elements → IsOldest elements (Some oldest) → IsElement head.kind head.node_len oldest
     → status ≡ 0 → next ≡ length octets - length oldest → new ≡ shown head.kind head.node_len next oldest
     → Gives free octets head elements cursor old next new status
-Gives-oldest free octets head [] oldest cursor old next new status carries is done place value = absurd (cc is)
-Gives-oldest free octets head (x ∷ xs) oldest cursor old next new status carries is done place value =
+Gives-oldest free octets head [] oldest cursor old next new status carries is whole done place value = absurd (cc is)
+Gives-oldest free octets head (x ∷ xs) oldest cursor old next new status carries is whole done place value =
     let same : x ≡ oldest = cc in
     let all = Oldest-Carries free octets head x xs carries in
     let here : next ≡ length octets - length x = place ∙ ap (λ (o : List ℕ). length octets - length o) (sym same) in
@@ -124,13 +126,11 @@ Gives-oldest free octets head (x ∷ xs) oldest cursor old next new status carri
     let Q : ℕ → Type 0 = λ n. Carries free (take n octets) head xs in
     let value_is = value ∙ ap (λ (o : List ℕ). shown head.kind head.node_len next o) (sym same) in
     let ends : next + length x ≡ length octets = omega (arith, all.fits) in
-    (done, (ends, (subst P (sym here) all.is, (subst Q (sym here) all.rest, value_is))))
-
--- none is given if there is none
-pub Gives-none : (free : ℕ) (octets : List ℕ) (head : TraceHead) (elements : List (List ℕ)) (cursor : ℕ) (old : IoamElement) (next : ℕ) (new : IoamElement) (status : ℕ)
-    → IsOldest elements None → status ≡ 1 → next ≡ cursor → new ≡ old → Gives free octets head elements cursor old next new status
-Gives-none free octets head [] cursor old next new status is done stays kept = (done, (stays, kept))
-Gives-none free octets head (x ∷ xs) cursor old next new status is done stays kept = absurd (cc is)
+    let last : drop next octets ≡ x = subst P (sym here) all.is in
+    let R : List ℕ → Type 0 = λ o. IsElement head.kind head.node_len o in
+    let S : IoamElement → Type 0 = λ e. Places octets e (fields_of head.kind head.node_len x) in
+    let placed = subst S (sym value_is) (places head.kind head.node_len next octets x (subst R (sym same) whole) last) in
+    (done, (ends, (last, (subst Q (sym here) all.rest, (value_is, placed)))))
 
 some_same : {T : Type 0} (x y : T) → Some x ≡ Some y → x ≡ y
 some_same x y is = cc

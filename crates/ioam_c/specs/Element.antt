@@ -1,5 +1,5 @@
 -- An element as C sees it: each field of its own, with a flag that it is there.
-use Rattle.std.specs.Prelude.{ℕ, ◌+◌, ◌-◌, ◌*◌, List, [], length, Option, Some, None}
+use Rattle.std.specs.Prelude.{ℕ, ◌+◌, ◌-◌, ◌*◌, ◌≡◌, List, [], length, take, drop, Option, Some, None}
 use Rattle.ioam_data.specs.Fields.{Held, fields_of}
 use Rattle.ioam_c.specs.Part.{flag, number, first, second}
 use Rattle.ioam_c.specs.declared.element.IoamElement.{IoamElement}
@@ -59,3 +59,8 @@ shown_by node_len offset size held = record {
 -- the element of these octets at an offset
 abbrev pub shown : ℕ → ℕ → ℕ → List ℕ → IoamElement
 shown kind node_len offset octets = shown_by node_len offset (length octets) (fields_of kind node_len octets)
+
+-- at an element's offsets in a trace lie the words that fill it up to NodeLen, and its opaque data
+pub record Places (octets : List ℕ) (element : IoamElement) (held : Held) : Type 0 where
+  pub fill : take element.fill_length (drop element.fill octets) ≡ held.filler
+  pub opaque : take element.opaque_length (drop element.opaque octets) ≡ opaque_of held.snapshot

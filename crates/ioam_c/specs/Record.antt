@@ -1,5 +1,5 @@
 -- An export record as C sees it.
-use Rattle.std.specs.Prelude.{◌≡◌, ◌⊎◌, ◌-◌, ℕ, List, length}
+use Rattle.std.specs.Prelude.{◌≡◌, ◌⊎◌, ◌-◌, ℕ, List, length, drop}
 use Rattle.ioam_dex.specs.Record.{Record, Rec}
 use Rattle.ioam_c.specs.Part.{flag, number, first, second}
 use Rattle.ioam_c.specs.Status.{ok, no_record}
@@ -23,8 +23,8 @@ record_in size x = record {
   has_seq = flag x.seq;
 }
 
--- the octets are one record, which is given; or they are none, and nothing is
+-- the octets are one record, which is given, and whose element lies at its offset; or they are none, and nothing is
 abbrev pub ReadsRecord : List ℕ → IoamRecord → IoamRecord → ℕ → Type 0
 ReadsRecord octets old new status =
-    ((x : Record) × Rec octets x × ((status ≡ ok) × (new ≡ record_in (length octets) x)))
+    ((x : Record) × Rec octets x × ((status ≡ ok) × ((new ≡ record_in (length octets) x) × (drop new.element octets ≡ x.element))))
     ⊎ (((x : Record) → ¬ Rec octets x) × ((status ≡ no_record) × (new ≡ old)))

@@ -13,13 +13,15 @@ ok = 0
 abbrev pub at_end : ℕ
 at_end = 1
 
--- of a packet: it isn't IPv6; it is shorter than its header states; a header breaks its chain
+-- a packet isn't IPv6
 abbrev pub not_ipv6 : ℕ
 not_ipv6 = 2
 
+-- it is shorter than its header states
 abbrev pub wrong_length : ℕ
 wrong_length = 3
 
+-- a header breaks its chain
 abbrev pub broken_chain : ℕ
 broken_chain = 4
 

@@ -1,10 +1,11 @@
 -- What is read of the octets of a trace, whole or cut before some of its elements.
 use Rattle.std.specs.Prelude.{◌≡◌, ◌⊎◌, ℕ, ◌+◌, List, [], ◌∷◌, length, take, drop, slice_get, Option, option_map}
 use Rattle.std.specs.Borrow.{Bor}
+use Rattle.ioam_data.specs.Fields.{fields_of}
 use Rattle.ioam_trace.specs.Read.{Carries, HasFault}
 use Rattle.ioam_trace.specs.declared.fault.TraceFault.{TraceFault}
 use Rattle.ioam_trace.specs.declared.head.TraceHead.{TraceHead}
-use Rattle.ioam_c.specs.Element.{shown}
+use Rattle.ioam_c.specs.Element.{shown, Places}
 use Rattle.ioam_c.specs.Status.{ok, at_end, fault_status}
 use Rattle.ioam_c.specs.declared.element.IoamElement.{IoamElement}
 use Rattle.ioam_c.specs.declared.trace.IoamTraceHead.{IoamTraceHead}
@@ -26,13 +27,13 @@ ReadsHead free octets old new status =
     ((head : TraceHead) × (elements : List (List ℕ)) × Carries free octets head elements × ((status ≡ ok) × (new ≡ head_of head)))
     ⊎ ((fault : TraceFault) × HasFault free octets fault × ((status ≡ fault_status fault) × (new ≡ old)))
 
--- what is given of the elements of a trace, in visit order: the first, which is the last of the octets, at its offset; the octets before
--- it are a trace that holds the others
+-- what is given of the elements of a trace, in visit order: the first, which is the last of the octets, with its fields and where its
+-- parts lie; the octets before it are a trace that holds the others
 abbrev pub Gives : ℕ → List ℕ → TraceHead → List (List ℕ) → ℕ → IoamElement → ℕ → IoamElement → ℕ → Type 0
 Gives free octets head [] cursor old next new status = (status ≡ at_end) × ((next ≡ cursor) × (new ≡ old))
 Gives free octets head (oldest ∷ others) cursor old next new status =
     (status ≡ ok) × ((next + length oldest ≡ length octets) × ((drop next octets ≡ oldest) × (Carries free (take next octets) head others
-    × (new ≡ shown head.kind head.node_len next oldest))))
+    × ((new ≡ shown head.kind head.node_len next oldest) × Places octets new (fields_of head.kind head.node_len oldest)))))
 
 -- the octets of an element that is borrowed
 abbrev pub octets_of : Option (Bor (List ℕ)) → Option (List ℕ)
