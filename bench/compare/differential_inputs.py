@@ -23,6 +23,7 @@ sys.dont_write_bytecode = True
 sys.path.insert(0, os.path.join(os.path.dirname(os.path.abspath(__file__)), "..", "..", "reference"))
 
 import audit_rows  # noqa: E402
+import explain_rows  # noqa: E402
 import faults_reach  # noqa: E402
 import messages_rows  # noqa: E402
 import texts_rows  # noqa: E402
@@ -126,7 +127,7 @@ def one(number, command, program, room):
 
 
 def main():
-    for rows in (texts_rows, audit_rows, messages_rows):
+    for rows in (texts_rows, audit_rows, explain_rows, messages_rows):
         rows.check()
     count = int(sys.argv[1]) if len(sys.argv) > 1 else 1000
     program = program_at(2)
