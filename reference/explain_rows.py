@@ -5,13 +5,14 @@ import random
 import sys
 
 import audit_random
-from audit_packets import Seat
-from explain import Reason, why
+from audit_packets import Audit, Seat
+from explain import why
+from explain_report import Explained
 from faults_domain import read_domain
 from foreign_packets import judged, number
 from foreign_random import Aim, frame
 from hand_line import LINE as DOMAIN
-from ng_captures import Arrival
+from ng_captures import Arrival, read_capture
 
 SOURCE, TARGET = "20010db8000100000000000000000001", "20010db8000200000000000000000001"
 UDP = "0400040100080000"
@@ -137,7 +138,59 @@ def check():
         chain = judged(Arrival(False, 0, len(before), before))[2]
         if there.may_send(before, chain, after) != (wanted is None):
             raise AssertionError(f"{before.hex()} {after.hex()}: {wanted}, and by audit otherwise")
+    reports()
     return len(rows)
+
+
+def captured(*packets):
+    """The arrivals of packets."""
+    return [Arrival(False, 0, len(one), one) for one in packets]
+
+
+def report(before, after, *lines):
+    """The report over packets before and after, but for its sums."""
+    found = Explained(seat(), captured(*before), captured(*after)).text.splitlines()
+    found = [line for line in found if not line.startswith(("before ", "after "))]
+    if found != list(lines):
+        raise AssertionError(f"found {found}, wanted {list(lines)}")
+
+
+def numbered(octets, number, at=-1):
+    """A packet with another octet at its end."""
+    return changed(octets, len(octets) + at, f"{number:02x}")
+
+
+ADVERTISEMENT = bytes.fromhex("60000000 0008 3a ff" + "fe80000000000000000000000000000b" + "ff020000000000000000000000000001" + "8600000000000000")
+HOP_LIM = "trace 1 hop-lim at 56 found 64 wanted 63 rfc 9197 4.4.2.1"
+
+
+def reports():
+    """Whole reports."""
+    came, went = packet(64, WORD), SENT
+    olds, news = ([numbered(one, number) for number in range(1, 6)] for one in (came, went))
+    olds[4] = changed(olds[4], 7, "01")
+    second = numbered(packet(63, "0007 0800 800000 00 40000002"), 2)
+    after = [news[2], ADVERTISEMENT, second, news[0], news[0], numbered(news[3], 0x77, -2), b"\x45" + bytes(19)]
+    report(olds, after, "1 sent 3", "2 unknown fe80:0:0:0:0:0:0:b ff02:0:0:0:0:0:0:1", f"3 wrong 2 {HOP_LIM}",
+           "    came 00070801 80000000 00000000", "    went 00070800 80000000 40000002", "4 sent 1", "5 repeat 1",
+           "6 like 4 payload at 70 found 77 wanted 00 rfc 8200 4", "7 skip not-ipv6", "gone 4", "rule hop-lim packets 1 first 3",
+           "verdict no 3")
+    whole = Explained(seat(), captured(*olds), captured(*after)).text
+    for line in ("before 5 sent 2 wrong 1 back 0 gone 1 due 1 skipped 0", "after 7 sent 2 wrong 1 repeat 1 back 0 like 1 unknown 1 skipped 1"):
+        if line not in whole:
+            raise AssertionError(f"{line} isn't in {whole}")
+    report((), (), "verdict none")
+    report((came,), (), "gone 1", "verdict none")
+    report((packet(1, WORD),), (), "verdict none")
+    report(olds[:2], (news[1], news[0]), "1 sent 2", "2 sent 1", "verdict yes")
+    report((went,), (came,), "1 back 1", "verdict none")
+    report((came,), (changed(went, 7, "40"), went), "1 wrong 1 hop-limit at 7 found 64 wanted 63 rfc 8200 3", "2 sent 1",
+           "rule hop-limit packets 1 first 1", "verdict no 1")
+    report((came,), (changed(BARE, 7, "3f"),), "1 wrong 1 header-removed at 6 found - wanted 24 rfc 8200 4",
+           "rule header-removed packets 1 first 1", "verdict no 1")
+    report((came,), (changed(went, 45, "ff"),), "1 wrong 1 option-length at 45 found 255 wanted 14 rfc 8200 4.2",
+           "rule option-length packets 1 first 1", "verdict no 1")
+    report(olds[:4], (came[:40],), "1 skip length", "gone 1 to 4", "verdict none")
 
 
 def holds(before, after, reason):
@@ -170,8 +223,27 @@ def sweep(count, seed):
     return legal
 
 
+def sweep_captures(count, seed):
+    """Explains so many random pairs of captures, and looks whether the laws of the report hold; how many `audit` allows."""
+    rng, allowed = random.Random(seed), 0
+    maker = audit_random.Maker(rng, read_domain(DOMAIN.encode()), 1, 0, Aim())
+    for _ in range(count):
+        captures = audit_random.pair(rng, maker, (1,))
+        before, after = (read_capture(one)[0] for one in captures)
+        audit, explained = Audit(maker.seat, before, after), Explained(maker.seat, before, after)
+        lines = [line.split() for line in explained.lines if line[0] in "123456789"]
+        sent = [int(line[2]) for line in lines if line[1] == "sent"]
+        yes = audit.sent == len(after)
+        allowed += yes
+        if len(lines) != len(after) or len(set(sent)) != len(sent) or yes != (sent == sorted(sent) and len(sent) == len(after)):
+            raise AssertionError(f"{[one.hex() for one in captures]}: {explained.text} and by audit {audit.text}")
+    return allowed
+
+
 if __name__ == "__main__":
     print(f"{check()} rows as written")
     if len(sys.argv) > 1:
         seed = sys.argv[2] if len(sys.argv) > 2 else "0"
         print(f"{sys.argv[1]} random pairs, {sweep(int(sys.argv[1]), seed)} legal, reasons and audit agree; seed {seed}")
+        some = int(sys.argv[1]) // 20
+        print(f"{some} random pairs of captures, {sweep_captures(some, seed)} allowed, lines and audit agree; seed {seed}")
