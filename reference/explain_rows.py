@@ -191,6 +191,21 @@ def reports():
     report((came,), (changed(went, 45, "ff"),), "1 wrong 1 option-length at 45 found 255 wanted 14 rfc 8200 4.2",
            "rule option-length packets 1 first 1", "verdict no 1")
     report(olds[:4], (came[:40],), "1 skip length", "gone 1 to 4", "verdict none")
+    many_reports(came, went)
+
+
+def many_reports(came, went):
+    """Reports over many packets: all equal and one in ten lost; shuffled within 100; 300 that only AFTER has."""
+    kept = [number for number in range(1, 201) if number % 10]
+    lines = [f"{place} sent {place}" for place in range(1, len(kept) + 1)]
+    report([came] * 200, [went] * len(kept), *lines, "gone 181 to 200", "verdict yes")
+    rng = random.Random(1)
+    order = [number for first in (0, 100, 200) for number in rng.sample(range(first, first + 100), 100)]
+    olds, news = ([changed(one, 68, f"{number:04x}") for number in range(300)] for one in (came, went))
+    lines = [f"{place} sent {number + 1}" for place, number in enumerate(order, 1)]
+    report(olds, [news[number] for number in order], *lines, "verdict yes")
+    lines = [f"{place} unknown fe80:0:0:0:0:0:0:b ff02:0:0:0:0:0:0:1" for place in range(2, 302)]
+    report(olds[:2], [news[0], *[ADVERTISEMENT] * 300, news[1]], "1 sent 1", *lines, "302 sent 2", "verdict yes")
 
 
 def holds(before, after, reason):
