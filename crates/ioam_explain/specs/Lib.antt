@@ -1,0 +1,4 @@
+pub mod Behind
+pub mod Headers
+pub mod Rows
+pub mod Why
