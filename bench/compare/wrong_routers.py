@@ -12,7 +12,7 @@ import tempfile
 
 HERE = os.path.dirname(os.path.abspath(__file__))
 ROOT = os.path.dirname(os.path.dirname(HERE))
-sys.path.insert(0, os.path.join(HERE, "model"))
+sys.path.insert(0, os.path.join(HERE, "..", "..", "reference"))
 
 from audit_packets import Seat  # noqa: E402
 from explain import why  # noqa: E402
