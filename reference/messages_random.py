@@ -89,7 +89,7 @@ class Stream:
         rng, octets = self.rng, set_octets(kind, content)
         if self.errs(0.02):
             size = rng.choice((0, 3, 4, 5, len(octets) - 1, len(octets) + 1, len(octets) + 4, 65_535))
-            octets = octets[:2] + two(max(0, size)) + octets[4:]
+            octets = octets[:2] + two(min(max(0, size), 65_535)) + octets[4:]
         if self.errs(0.015):
             octets = two(rng.choice(ODD_SETS + (kind ^ 1,))) + octets[2:]
         return octets
@@ -129,7 +129,7 @@ class Stream:
             octets = two(rng.choice((9, 11, 0, 0x0A00, 2570))) + octets[2:]
         if self.errs(0.02):
             size = rng.choice((0, 15, 16, 17, len(octets) - 1, len(octets) + 1, len(octets) - 4, 65_535))
-            octets = octets[:2] + two(max(0, size)) + octets[4:]
+            octets = octets[:2] + two(min(max(0, size), 65_535)) + octets[4:]
         self.octets += octets
 
 

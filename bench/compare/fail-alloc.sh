@@ -52,6 +52,7 @@ try() {
 
 real=examples/linux-ioam.pcap three=examples/three one=examples/one-node
 outputs=(kept.pcap report) && try filter examples/reasons.pcap kept.pcap report
+outputs=(leaking.pcap report) && try leaks examples/reasons.pcap leaking.pcap report
 outputs=(report) && try paths "$real" report
 outputs=(report) && try delays posix "$real" report
 outputs=(report) && try show "$real" report
