@@ -14,7 +14,7 @@ abbrev pub opaque_of : Option (ℕ × List ℕ) → List ℕ
 opaque_of None = []
 opaque_of (Some given) = given.1
 
--- an element of so many octets at an offset, by what it holds. The words that fill it up to NodeLen precede the snapshot, whose opaque
+-- an element of `size` octets at `offset`, by what it holds. The words that fill it up to NodeLen precede the snapshot, whose opaque
 -- data is last
 abbrev pub shown_by : ℕ → ℕ → ℕ → Held → IoamElement
 shown_by node_len offset size held = record {

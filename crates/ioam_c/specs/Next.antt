@@ -66,7 +66,7 @@ at_least from placed = nat_le from placed.option.at
 abbrev pub before_data : ℕ → ℕ
 before_data size = if nat_le size 2 then size else 2
 
--- 1 if so many octets are enough
+-- 1 if `size` octets are at least the `wanted` ones
 abbrev pub there_if : ℕ → ℕ → ℕ
 there_if size wanted = if nat_le wanted size then 1 else 0
 

@@ -5,7 +5,7 @@ use Rattle.ioam_c.specs.Part.{flag, number, first, second}
 use Rattle.ioam_c.specs.Status.{ok, no_record}
 use Rattle.ioam_c.specs.declared.record.IoamRecord.{IoamRecord}
 
--- what a record of so many octets says, each number that need not be there with a flag. Its element is last
+-- what a record of `size` octets says, each number that need not be there with a flag. Its element is last
 abbrev pub record_in : ℕ → Record → IoamRecord
 record_in size x = record {
   element = size - length x.element;

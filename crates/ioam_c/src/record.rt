@@ -64,7 +64,7 @@ fn visit(field: Option<(u64, u32)>) -> (u8, u64, u32)
     }
 }
 
-// The contents of a record of so many octets as C sees them.
+// The contents of a record of `size` octets as C sees them.
 fn record_in(size: usize, export: &Export<'_>) -> IoamRecord
     ensures { result ≡ record_in size (record_of export.now) }
 {

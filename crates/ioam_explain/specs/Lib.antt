@@ -1,4 +1,4 @@
-pub mod Behind
 pub mod Headers
+pub mod Payload
 pub mod Rows
 pub mod Why

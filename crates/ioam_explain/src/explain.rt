@@ -1,23 +1,23 @@
 //! Why a router may not have sent a packet on as another.
 ghost use Rattle.std.specs.Prelude.{◌≡◌, ◌<◌, ◌≤◌, IfSome, MatchOption, length, slice_get};
 ghost use Rattle.ioam_audit.specs.Sent.{IsSentAs, end_of};
-ghost use Rattle.ioam_explain.specs.Why.{behind_rules, broken, or_other};
+ghost use Rattle.ioam_explain.specs.Why.{broken, or_other, payload_rules};
 ghost use Rattle.ioam_ip.specs.Chain.{IsSound};
 ghost use Rattle.ioam_ip.specs.Packet.{IsPacket};
 ghost use Rattle.ioam_topo.specs.Domain.{links, nodes};
 
-use crate::behind::{other_payload, other_upper};
 use crate::headers::header_rules;
+use crate::payload::{other_payload, other_upper};
 use crate::reason::{Reason, Rule, Value};
 use crate::rows::either;
 use ioam_audit::legal;
 use ioam_topo::{Domain, LinkId, NodeId};
 
 // The first rule that is broken of those about what follows the IPv6 header, in packets of one length.
-#[tactic(auto, unfolding(crate::specs::Why::behind_rules))]
-fn behind_rules(before: &[u8], after: &[u8]) -> Option<Reason>
+#[tactic(auto, unfolding(crate::specs::Why::payload_rules))]
+fn payload_rules(before: &[u8], after: &[u8]) -> Option<Reason>
     requires before { 40 ≤ length before.now }
-    ensures { result ≡ behind_rules before.now after.now }
+    ensures { result ≡ payload_rules before.now after.now }
 {
     if after.len() != before.len() {
         return None;
@@ -32,7 +32,7 @@ fn broken(before: &[u8], after: &[u8]) -> Option<Reason>
     requires after { 40 ≤ length after.now }
     ensures { result ≡ broken before.now after.now }
 {
-    either(header_rules(before, after), behind_rules(before, after))
+    either(header_rules(before, after), payload_rules(before, after))
 }
 
 // The reason of a packet that isn't legal.

@@ -2,10 +2,10 @@
 //! (RFC 8200, RFC 9197), at which octet, what is there and what the rule wants.
 #![tactic(auto)]
 
-mod behind;
 mod common;
 mod explain;
 mod headers;
+mod payload;
 mod reason;
 mod rows;
 

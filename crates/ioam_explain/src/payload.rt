@@ -1,6 +1,6 @@
 //! The rules about what follows the IPv6 header.
 ghost use Rattle.std.specs.Prelude.{◌≡◌, ◌+◌, ◌<◌, ◌≤◌, ◌^◌, length};
-ghost use Rattle.ioam_explain.specs.Behind.{other_payload, other_upper};
+ghost use Rattle.ioam_explain.specs.Payload.{other_payload, other_upper};
 
 use crate::headers::hop_octets;
 use crate::reason::{Reason, Rule, Value};
@@ -8,7 +8,7 @@ use crate::rows::{differing, row};
 use ioam_ip::HEADER_OCTETS;
 
 /// Another Next Header value in the Hop-by-Hop Options header.
-#[tactic(auto, unfolding(crate::specs::Behind::other_upper, crate::specs::Rows::row))]
+#[tactic(auto, unfolding(crate::specs::Payload::other_upper, crate::specs::Rows::row))]
 pub(crate) fn other_upper(before: &[u8], after: &[u8]) -> Option<Reason>
     requires before { 40 ≤ length before.now }
     requires same { length after.now ≡ length before.now }
@@ -30,7 +30,7 @@ pub(crate) fn other_upper(before: &[u8], after: &[u8]) -> Option<Reason>
 }
 
 /// Other octets after the headers.
-#[tactic(auto, unfolding(crate::specs::Behind::other_payload))]
+#[tactic(auto, unfolding(crate::specs::Payload::other_payload))]
 pub(crate) fn other_payload(before: &[u8], after: &[u8]) -> Option<Reason>
     requires before { 40 ≤ length before.now }
     requires same { length after.now ≡ length before.now }
