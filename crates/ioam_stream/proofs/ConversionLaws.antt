@@ -41,14 +41,6 @@ module _ {C : Type 0} (does : Converts C) where
   taking_stands : (now : Conversion C) → (standing : Standing (kind does) now) → now.phase ≡ phase.Taking → IsTaking does standing.begun.converter standing.seen standing.so_far now
   taking_stands now standing is = subst (λ (p : Phase). StandsIn does p standing.begun.converter standing.seen standing.so_far now) is standing.stands
 
-  pub taking_so : (now : Conversion C) → Standing (kind does) now → now.phase ≡ phase.Taking → StandsSo does now.converter
-  taking_so now standing is = record {
-    begun = standing.begun.converter;
-    octets = standing.seen.fed 0;
-    so_far = standing.so_far;
-    stands = (taking_stands now standing is).stands;
-  }
-
   -- where no item is taken any more, the tail may be said
   pub stop_stops : (old : Conversion C) (now : C) (before after : List Output) → Standing (kind does) old → old.phase ≡ phase.Taking
       → TakesNone does old.converter now before after → StopsSo does now
@@ -59,84 +51,3 @@ module _ {C : Type 0} (does : Converts C) where
     so_far = standing.so_far;
     stops = none.stops standing.begun.converter (standing.seen.fed 0) [] standing.so_far (taking_stands old standing is).stands;
   }
-
-  module _ (old new : Conversion C) (before after : List Output) (answer : Step) where
-    -- the tail was said, or a part of it
-    pub closing_takes : old.phase ≡ phase.Closing → IsClosing does old new before after answer → Steps (kind does) old new before after answer
-    closing_takes is closing = subst (λ (s : Step). Steps (kind does) old new before after s) (sym closing.taken) (by_tail closing.left closing.phase closing.closes)
-      where
-        room : does.room new.converter ≡ does.room old.converter → does.room new.converter + not_yet does new.ended ≡ does.room old.converter + not_yet does old.ended
-        room same = ap (λ (b : Bool). does.room new.converter + not_yet does b) closing.ended ∙ ap (λ (n : ℕ). n + not_yet does old.ended) same
-
-        by_tail : (left : Tail) → new.phase ≡ phase_after does left → Closes does old.converter new.converter before after left → Takes (kind does) old new before after
-        by_tail tail.Rest now closes = record {
-          held = omega (arith, closes.held, ap (λ (p : Phase). held_in does p (does.held old.converter)) is, ap (λ (p : Phase). held_in does p (does.held new.converter)) now);
-          room = room closes.room;
-          added = closes.added;
-          adds = closes.adds;
-          stands = λ begun seen so_far stands.
-              let says = subst (λ (p : Phase). StandsIn does p begun.converter seen so_far old) is stands in
-              subst (λ (p : Phase). StandsIn does p begun.converter seen (said_more so_far closes.added) new) (sym now) (record {
-                whole = λ uncut contents covers. closes.stops begun.converter Ended (contents 0) so_far (says.whole uncut contents covers);
-                handed = λ cut. closes.stops begun.converter Handed (seen.fed 0) so_far (says.handed cut);
-                drained = λ uncut drains. says.drained uncut (closes.drains drains);
-              });
-        }
-        by_tail tail.End now closes = record {
-          held = omega (arith, ap (λ (p : Phase). held_in does p (does.held old.converter)) is, ap (λ (p : Phase). held_in does p (does.held new.converter)) now);
-          room = room closes.room;
-          added = closes.added;
-          adds = closes.adds;
-          stands = λ begun seen so_far stands.
-              let says = subst (λ (p : Phase). StandsIn does p begun.converter seen so_far old) is stands in
-              subst (λ (p : Phase). StandsIn does p begun.converter seen (said_more so_far closes.added) new) (sym now) (record {
-                whole = λ uncut contents covers. closes.texts begun.converter Ended (contents 0) so_far (says.whole uncut contents covers);
-                handed = λ cut. closes.texts begun.converter Handed (seen.fed 0) so_far (says.handed cut);
-                drained = λ uncut drains. says.drained uncut (closes.drains drains);
-              });
-        }
-
-    -- nothing was taken, and the tail was said, or a part of it
-    pub stop_takes : (mid : Conversion C) (between : List Output) → old.phase ≡ phase.Taking → mid.ended ≡ old.ended → does.room mid.converter ≡ does.room old.converter
-        → TakesNone does old.converter mid.converter before between → IsClosing does mid new between after answer → Steps (kind does) old new before after answer
-    stop_takes mid between is ended room none closing = subst (λ (s : Step). Steps (kind does) old new before after s) (sym closing.taken) (by_tail closing.left closing.phase closing.closes)
-      where
-        taking : (begun : Conversion C) (seen : Seen) (so_far : List (List ℕ)) → StandsIn does old.phase begun.converter seen so_far old → IsTaking does begun.converter seen so_far old
-        taking begun seen so_far stands = subst (λ (p : Phase). StandsIn does p begun.converter seen so_far old) is stands
-
-        rooms : does.room new.converter ≡ does.room mid.converter → does.room new.converter + not_yet does new.ended ≡ does.room old.converter + not_yet does old.ended
-        rooms same = ap (λ (b : Bool). does.room new.converter + not_yet does b) (closing.ended ∙ ended) ∙ ap (λ (n : ℕ). n + not_yet does old.ended) (same ∙ room)
-
-        -- of all octets the converter had stopped before
-        stopped : (begun : Conversion C) (seen : Seen) (so_far : List (List ℕ)) (contents : ℕ → List ℕ) → StandsIn does old.phase begun.converter seen so_far old → Covers 1 seen contents
-            → does.stops begun.converter Ended (contents 0) so_far mid.converter
-        stopped begun seen so_far contents stands covers =
-            let front = covers.front 0 (omega arith) in
-            subst (λ (xs : List ℕ). does.stops begun.converter Ended xs so_far mid.converter) (sym front.is)
-            (none.stops begun.converter (seen.fed 0) front.rest so_far (taking begun seen so_far stands).stands)
-
-        by_tail : (left : Tail) → new.phase ≡ phase_after does left → Closes does mid.converter new.converter between after left → Takes (kind does) old new before after
-        by_tail tail.Rest now closes = record {
-          held = omega (arith, closes.held, none.held, ap (λ (p : Phase). held_in does p (does.held old.converter)) is, ap (λ (p : Phase). held_in does p (does.held new.converter)) now);
-          room = rooms closes.room;
-          added = closes.added;
-          adds = subst (λ (o : List Output). Adds o after closes.added) none.same closes.adds;
-          stands = λ begun seen so_far stands.
-              subst (λ (p : Phase). StandsIn does p begun.converter seen (said_more so_far closes.added) new) (sym now) (record {
-                whole = λ uncut contents covers. closes.stops begun.converter Ended (contents 0) so_far (stopped begun seen so_far contents stands covers);
-                handed = λ cut. absurd (true≢false (sym cut ∙ (taking begun seen so_far stands).uncut));
-                drained = λ uncut drains. absurd (none.undrained (closes.drains drains));
-              });
-        }
-        by_tail tail.End now closes = record {
-          held = omega (arith, ap (λ (p : Phase). held_in does p (does.held old.converter)) is, ap (λ (p : Phase). held_in does p (does.held new.converter)) now);
-          room = rooms closes.room;
-          added = closes.added;
-          adds = subst (λ (o : List Output). Adds o after closes.added) none.same closes.adds;
-          stands = λ begun seen so_far stands.
-              subst (λ (p : Phase). StandsIn does p begun.converter seen (said_more so_far closes.added) new) (sym now) (record {
-                whole = λ uncut contents covers. closes.texts begun.converter Ended (contents 0) so_far (stopped begun seen so_far contents stands covers);
-                handed = λ cut. absurd (true≢false (sym cut ∙ (taking begun seen so_far stands).uncut));
-                drained = λ uncut drains. absurd (none.undrained (closes.drains drains));
-              });
-        }

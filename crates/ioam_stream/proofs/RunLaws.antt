@@ -65,14 +65,6 @@ module _ {S : Type 0} (kind : Kind S) (tells : Bool) (start : Start S) where
   stops_sticks old new stage outputs after stop.WriteFault width left same stops whole says = absurd (whole tt)
   stops_sticks old new stage outputs after stop.NoMemory width left same stops whole says = absurd (whole tt)
 
-  -- an answer that leaves the outputs alone
-  pub broken_finishes : (state : State) (stage : S) (outputs : List Sink) (answer : Stop) → Stops kind tells start state stage outputs answer
-      → IsBroken answer → Finishes kind tells start state stage answer
-  broken_finishes state stage outputs stop.Ended stops broken = absurd broken
-  broken_finishes state stage outputs stop.ReadFault stops broken = absurd broken
-  broken_finishes state stage outputs stop.WriteFault stops broken = stops
-  broken_finishes state stage outputs stop.NoMemory stops broken = stops
-
 -- something is added to each
 adds_sized : (old new : List Sink) (added : List (List ℕ)) → Adds old new added → length added ≡ length old
 adds_sized [] [] [] adds = refl
