@@ -9,7 +9,7 @@ set -eu
 . "$(dirname "${BASH_SOURCE[0]}")/timing.sh"
 packets=${1:-20000} records=${2:-200000}
 begin gcc valgrind
-build walk texts audit measured collect messages merge_parts
+build walk texts save node audit measured collect messages merge_parts
 gcc -O2 -DNODES=61 -DTRACE=0x800000 -DCAPACITY=61 -DDIRECT=0 -DWORDS=-1 -o long "$here/long.c"
 one=$top/examples/one-node
 
@@ -48,8 +48,13 @@ count_all() {
     counted show.c ../texts show in.pcap by-hand
     counted show "$ioam" show in.pcap out
     cmp by-hand out
+    counted save.c ../save in.pcap by-hand
     counted save "$ioam" save in.pcap out
+    cmp by-hand out
+    counted node.c ../node "$one/readings" in.pcap by-hand by-hand.report
     counted node "$ioam" node "$one/domain.toml" "$one/readings" three two-three in.pcap out out.report out.exports
+    cmp by-hand out
+    cmp by-hand.report out.report
     counted audit.c ../audit 3 32 in.pcap after.pcap out 7 123
     counted audit "$ioam" audit "$one/domain.toml" three two-three in.pcap after.pcap out
     counted measured ../measured readings out out.exports
@@ -102,8 +107,8 @@ row '`leaks` of clean packets' leaks-clean 'a packet' $more_clean filter-clean '
 row '`paths`' paths 'a packet' $more paths.c texts.c
 row '`delays`' delays 'a packet' $more paths '`paths`'
 row '`show`' show 'a packet' $more show.c texts.c
-row '`save`' save 'a packet' $more walk walk.c
-row '`node`' node 'a packet' $more walk walk.c
+row '`save`' save 'a packet' $more save.c save.c
+row '`node`' node 'a packet' $more node.c node.c
 row '`audit`' audit 'a pair of packets' $more audit.c audit.c
 row '`run`, measured' run 'a packet' $more measured measured.c
 row '`run` along 61 nodes' run-line 'a packet' $((more / 10)) long long.c
