@@ -114,6 +114,8 @@ pub fn finish<D: Desk>(desk: &mut D, outputs: &mut [Output]) -> Result<(), DeskF
     ensures all { OnOk result (GathersNothing outputs.new) }
     // A fault comes only where something is left.
     ensures left { OnErr result (LeavesSome 1 outputs.old outputs.new) }
+    // Nothing is written to a slot that is no output's, or for which nothing is gathered.
+    ensures kept { KeepsFew 1 (D.writing desk.old) (D.writing desk.new) outputs.old outputs.new }
     ensures inputs { D.reading desk.new ≡ D.reading desk.old }
     ensures touches { (slot : ℕ) (names texts : List (List ℕ)) → AreTold D.tells (D.writing desk.old) slot names outputs.old texts
         → Touches D.tells (writes_from slot) (failing_out result)
