@@ -1,7 +1,9 @@
 -- The packet that a captured frame holds.
-use Rattle.std.specs.Prelude.{⊤, ℕ, ◌/◌, List, Bool, ◌==◌, ◌||◌, ◌&&◌, not, nat_lt, nat_le, if◌then◌else◌, length, slice_index, take, drop}
+use Rattle.std.specs.Prelude.{⊤, ℕ, ◌/◌, List, Option, Some, None, Bool, true, ◌==◌, ◌||◌, ◌&&◌, not, nat_lt, nat_le, if◌then◌else◌, length, slice_index, take, drop}
 use Rattle.ioam_base.specs.Octets.{u16_at}
+use Rattle.ioam_ip.specs.Layer.{link_header}
 use Rattle.ioam_ip.specs.Packet.{whole_length}
+use Rattle.ioam_ip.specs.declared.layer.Layer.{Layer}
 
 -- what a frame gives: a packet, or the first reason why it gives none
 pub data Framing : Type 0 where
@@ -18,18 +20,20 @@ framed cut octets =
     else (if nat_lt (length octets) 40 || nat_lt (length octets) (whole_length octets) then TooShort
     else Holds (take (whole_length octets) octets)))
 
--- an Ethernet header has 14 octets; its last two are the Ethertype, 0x86DD for IPv6 (RFC 2464
--- section 3)
-abbrev pub is_ethernet_ipv6 : List ℕ → Bool
-is_ethernet_ipv6 frame = nat_le 14 (length frame) && (u16_at frame 12 == 0x86DD)
+-- the 16 bits at this offset, if one is given, are 0x86DD, the Ethertype of IPv6 (RFC 2464 section 3)
+abbrev pub is_ipv6_at : List ℕ → Option ℕ → Bool
+is_ipv6_at frame (Some at) = u16_at frame at == 0x86DD
+is_ipv6_at frame None = true
 
--- What a captured frame gives. The first of these reasons counts: no Ethernet header with the
+-- the frame has the whole link header, and its Ethertype, if it has one, is that of IPv6
+abbrev pub announces_ipv6 : Layer → List ℕ → Bool
+announces_ipv6 layer frame = nat_le (link_header layer).0 (length frame) && is_ipv6_at frame (link_header layer).1
+
+-- What a captured frame gives. The first of these reasons counts: no link header with the
 -- Ethertype of IPv6 where there should be one, or no version 6; fewer octets captured than the frame
 -- had; fewer octets than the header, or than it says.
-abbrev pub framing_of : Bool → Bool → List ℕ → Framing
-framing_of ethernet cut frame =
-    if not ethernet then framed cut frame
-    else (if is_ethernet_ipv6 frame then framed cut (drop 14 frame) else NoIpv6)
+abbrev pub framing_of : Layer → Bool → List ℕ → Framing
+framing_of layer cut frame = if announces_ipv6 layer frame then framed cut (drop (link_header layer).0 frame) else NoIpv6
 
 -- the fact holds of the packet, where there is one
 abbrev pub IfHolds : Framing → (List ℕ → Type 0) → Type 0

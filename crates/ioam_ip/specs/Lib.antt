@@ -8,6 +8,7 @@ pub mod Header
 pub mod HeadsLeft
 pub mod Hop
 pub mod Laid
+pub mod Layer
 pub mod Layout
 pub mod Lowered
 pub mod OptionList

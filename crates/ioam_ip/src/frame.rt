@@ -1,14 +1,13 @@
 //! The packet that a captured frame holds.
 ghost use Rattle.std.specs.Prelude.{◌≡◌, ◌≤◌, IsTrue, length};
-ghost use Rattle.ioam_ip.specs.Framing.{framing_of, framed, is_ethernet_ipv6, IfHolds};
+ghost use Rattle.ioam_ip.specs.Framing.{announces_ipv6, framing_of, framed, IfHolds};
 ghost use Rattle.ioam_ip.specs.Framed.{framing};
+ghost use Rattle.ioam_ip.specs.Layer.{layer_of, link_header};
 ghost use Rattle.ioam_ip.specs.Packet.{IsPacket};
 
+use crate::layer::Layer;
 use crate::packet::HEADER_OCTETS;
 use ioam_base::octets::u16_at;
-
-/// The octets of an Ethernet header; its last two are the Ethertype (RFC 2464 section 3).
-const ETHERNET_OCTETS: usize = 14;
 
 /// The Ethertype of IPv6 (RFC 2464 section 3).
 const ETHERTYPE_IPV6: u16 = 0x86DD;
@@ -18,7 +17,7 @@ const ETHERTYPE_IPV6: u16 = 0x86DD;
 pub enum Framed<'a> {
     /// A packet of 40 octets and its payload length; what follows it in the frame is padding.
     Packet(&'a [u8]),
-    /// No Ethernet header with the Ethertype of IPv6, or no version 6 behind it.
+    /// No link header with the Ethertype of IPv6 where there should be one, or no version 6 after it.
     NotIpv6,
     /// Fewer octets were captured than the frame had.
     Cut,
@@ -26,29 +25,42 @@ pub enum Framed<'a> {
     Length,
 }
 
-/// The packet of a frame (RFC 8200 section 3), or the first reason why it gives none: it isn't
-/// IPv6, it was cut when it was captured, or it is shorter than its header says. `ethernet` says
-/// that the frame begins with an Ethernet header, `cut` that fewer octets were captured than the
-/// frame had.
+/// The packet of a frame that begins with an Ethernet header if `ethernet`, else with an IP header:
+/// `packet_in_layer` of that layer.
 pub fn packet_of(ethernet: bool, cut: bool, frame: &[u8]) -> Framed<'_>
-    ensures framing { framing result ≡ framing_of ethernet cut frame.now }
+    ensures framing { framing result ≡ framing_of (layer_of ethernet) cut frame.now }
     ensures packet { IfHolds (framing result) IsPacket }
 {
-    if !ethernet {
-        return packet_in(cut, frame);
-    }
-    if !is_ethernet_ipv6(frame) {
-        return Framed::NotIpv6;
-    }
-    packet_in(cut, &frame[ETHERNET_OCTETS..])
+    packet_in_layer(Layer::of(ethernet), cut, frame)
 }
 
-// Whether the frame begins with an Ethernet header with the Ethertype of IPv6.
-fn is_ethernet_ipv6(frame: &[u8]) -> bool
-    ensures kind { result ≡ is_ethernet_ipv6 frame.now }
-    ensures header_there { IsTrue result → 14 ≤ length frame.now }
+/// The packet of a frame (RFC 8200 section 3), or the first reason why it gives none: it isn't
+/// IPv6, it was cut when it was captured, or it is shorter than its header says. The frame begins at
+/// `layer`; `cut` says that fewer octets were captured than it had.
+pub fn packet_in_layer(layer: Layer, cut: bool, frame: &[u8]) -> Framed<'_>
+    ensures framing { framing result ≡ framing_of layer cut frame.now }
+    ensures packet { IfHolds (framing result) IsPacket }
 {
-    frame.len() >= ETHERNET_OCTETS && u16_at(frame, ETHERNET_OCTETS - 2) == ETHERTYPE_IPV6
+    if !announces_ipv6(layer, frame) {
+        return Framed::NotIpv6;
+    }
+    let (size, _) = layer.link_header();
+    packet_in(cut, &frame[size..])
+}
+
+// Whether the frame has the whole link header, and its Ethertype, if it has one, is that of IPv6.
+fn announces_ipv6(layer: Layer, frame: &[u8]) -> bool
+    ensures answer { result ≡ announces_ipv6 layer frame.now }
+    ensures header_there { IsTrue result → (link_header layer).0 ≤ length frame.now }
+{
+    let (size, ethertype_at) = layer.link_header();
+    if frame.len() < size {
+        return false;
+    }
+    match ethertype_at {
+        Some(at) => u16_at(frame, at) == ETHERTYPE_IPV6,
+        None => true,
+    }
 }
 
 // The packet that the octets begin with.
