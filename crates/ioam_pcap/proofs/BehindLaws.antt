@@ -7,7 +7,8 @@ use Rattle.ioam_pcap.specs.declared.form.Order.{Order}
 use Rattle.ioam_pcap.specs.declared.form.Order.TheVariants.{Big, Little}
 use Rattle.ioam_pcap.specs.declared.form.Form.{Form}
 use Rattle.ioam_pcap.specs.declared.capture.CapFault.{CapFault}
-use Rattle.ioam_pcap.specs.Form.{number_at, IsLinkType, HasHead}
+use Rattle.ioam_pcap.specs.Form.{number_at, HasHead}
+use Rattle.ioam_pcap.specs.Link.{IsLinkType}
 use Rattle.ioam_pcap.specs.Entries.{Entry, captured, IsWhole, entry_at, behind, Entries}
 use Rattle.ioam_pcap.specs.Reads.{HasMagic, HeadFault, EntryFault, Reached, FaultAt, Shown, HeadShown, EntryShown, CutShown, FaultShown, Shows}
 

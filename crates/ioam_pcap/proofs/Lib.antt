@@ -1,5 +1,6 @@
 pub mod BehindLaws
 pub mod DropLaws
+mod LinkLaws
 pub mod ReadsLaws
 pub mod ShortLaws
 pub mod StandsLaws

@@ -4,8 +4,7 @@ use Rattle.std.specs.Option.{IsSome}
 use Rattle.std.proofs.lemmas.Bool.{cases_lt, cases_eq, false≢true}
 use Rattle.ioam_base.specs.Octets.{u32_at}
 use Rattle.ioam_base.proofs.LeadsLaws.{Leads-push, Leads-unique}
-use Rattle.ioam_pcap.specs.declared.form.Link.{Link}
-use Rattle.ioam_pcap.specs.declared.form.Link.TheVariants.{Ethernet, Raw}
+use Rattle.ioam_ip.specs.declared.layer.Layer.{Layer}
 use Rattle.ioam_pcap.specs.declared.form.Order.{Order}
 use Rattle.ioam_pcap.specs.declared.form.Order.TheVariants.{Big, Little}
 use Rattle.ioam_pcap.specs.declared.form.Fraction.{Fraction}
@@ -13,7 +12,9 @@ use Rattle.ioam_pcap.specs.declared.form.Fraction.TheVariants.{Micro, Nano}
 use Rattle.ioam_pcap.specs.declared.form.Form.{Form}
 use Rattle.ioam_pcap.specs.declared.capture.CapFault.{CapFault}
 use Rattle.ioam_pcap.specs.declared.capture.CapFault.TheVariants as fault
-use Rattle.ioam_pcap.specs.Form.{number_at, spelling, IsUnspelled, IsLinkType, IsNoLinkType, HasHead}
+use Rattle.ioam_pcap.specs.Form.{number_at, spelling, IsUnspelled, HasHead}
+use Rattle.ioam_pcap.specs.Link.{IsLinkType, IsNoLinkType}
+use Rattle.ioam_pcap.proofs.LinkLaws.{link_unique, linked_or_not}
 use Rattle.ioam_pcap.specs.Ending.{Ending, Whole, Faulty}
 use Rattle.ioam_pcap.specs.Entries.{Entry, most, captured, IsWhole, entry_at, behind, Entries}
 use Rattle.ioam_pcap.specs.Reads.{HasMagic, HeadFault, EntryFault, IsHeadCut, IsEntryCut, Reached, FaultAt, CutAt, Shown, HeadShown, EntryShown, CutShown, FaultShown, Shows, IsShort, EndsAt, Reads, Cap, link_by}
@@ -44,20 +45,6 @@ spelling_not_unspelled Big Nano magic same un = un.1 same
 spelling_not_unspelled Little Micro magic same un = un.2 same
 spelling_not_unspelled Little Nano magic same un = un.3 same
 
--- a link type is of one link
-link_unique : (number : ℕ) (a b : Link) → IsLinkType number a → IsLinkType number b → a ≡ b
-link_unique number Ethernet Ethernet x y = refl
-link_unique number Ethernet Raw x (inl y) = absurd (omega arith)
-link_unique number Ethernet Raw x (inr y) = absurd (omega arith)
-link_unique number Raw Ethernet (inl x) y = absurd (omega arith)
-link_unique number Raw Ethernet (inr x) y = absurd (omega arith)
-link_unique number Raw Raw x y = refl
-
-link_known : (number : ℕ) (link : Link) → IsLinkType number link → IsNoLinkType number → ⊥
-link_known number Ethernet x unknown = unknown.0 x
-link_known number Raw (inl x) unknown = unknown.1 x
-link_known number Raw (inr x) unknown = unknown.2 x
-
 module _ (octets : List ℕ) where
   magic_unique : (o p : Order) (f g : Fraction) → HasMagic octets o f → HasMagic octets p g → (o ≡ p) × (f ≡ g)
   magic_unique o p f g x y = spelling-injective o p f g (sym x.1 ∙ y.1)
@@ -79,7 +66,7 @@ module _ (octets : List ℕ) where
       let same = spelling-injective form.order order form.fraction fraction (sym head.1 ∙ magic.1) in
       let Q : Order → Type 0 = λ o. IsLinkType (number_at o octets 20) form.link in
       let R : ℕ → Type 0 = λ n. IsLinkType n form.link in
-      link_known found form.link (subst R (sym there) (subst Q same.0 head.2)) unknown
+      unknown form.link (subst R (sym there) (subst Q same.0 head.2))
 
   head_uncut : (form : Form) → HasHead octets form → IsHeadCut octets → ⊥
   head_uncut form head (inl few) = omega arith
@@ -246,14 +233,14 @@ module _ (octets : List ℕ) where
       (ap Some (sym form), same.0, ends_unique (Some a) at d e ends (subst S (sym same.1) stops))
 
   -- a capture reads in one way
-  pub Reads-unique : (link other : Option Link) (xs ys : List Entry) (d e : Ending) → Reads octets link xs d → Reads octets other ys e
+  pub Reads-unique : (link other : Option Layer) (xs ys : List Entry) (d e : Ending) → Reads octets link xs d → Reads octets other ys e
       → (link ≡ other) × (xs ≡ ys) × (d ≡ e)
   Reads-unique link other xs ys d e x y =
       let same = places_unique x.form y.form xs ys x.at y.at d e x.reached x.ends y.reached y.ends in
       (x.linked ∙ ap link_by same.0 ∙ sym y.linked, same.1, same.2)
 
   -- a capture with a head has a list of records behind which no whole one stands
-  pub Reads-cap : (link : Link) (entries : List Entry) (ending : Ending) → Reads octets (Some link) entries ending → (rest : ℕ) × Cap octets link entries rest
+  pub Reads-cap : (link : Layer) (entries : List Entry) (ending : Ending) → Reads octets (Some link) entries ending → (rest : ℕ) × Cap octets link entries rest
   Reads-cap link entries ending reads = cap_by reads.form reads.at reads.reached reads.ends reads.linked
     where
       cap_by : (form : Option Form) (at : ℕ) → Reached octets form entries at → EndsAt octets form at ending → Some link ≡ link_by form
@@ -286,22 +273,9 @@ spelled_or_not magic = elim (cases_eq magic 0xa1b2c3d4) [
   ]
 ]
 
--- a number is a link type that is read or not
-linked_or_not : (number : ℕ) → ((link : Link) × IsLinkType number link) ⊎ IsNoLinkType number
-linked_or_not number = elim (cases_eq number 1) [
-  | inl a ↦ inl (Ethernet, a)
-  | inr a ↦ elim (cases_eq number 101) [
-    | inl b ↦ inl (Raw, inl b)
-    | inr b ↦ elim (cases_eq number 229) [
-      | inl d ↦ inl (Raw, inr d)
-      | inr d ↦ inr (a, b, d)
-    ]
-  ]
-]
-
 -- what a file is found to be
 abbrev pub Found : List ℕ → Type 0
-Found octets = (link : Option Link) × (entries : List Entry) × (ending : Ending) × Reads octets link entries ending
+Found octets = (link : Option Layer) × (entries : List Entry) × (ending : Ending) × Reads octets link entries ending
 
 module _ (octets : List ℕ) where
   found_at : (form : Option Form) (entries : List Entry) (at : ℕ) (ending : Ending) → Reached octets form entries at → EndsAt octets form at ending → Found octets

@@ -3,7 +3,7 @@ use Rattle.std.proofs.Common.{ℕ, ◌+◌, List, [], ◌∷◌, ◌++◌, drop,
 use Rattle.std.specs.Prelude.{All}
 use Rattle.std.proofs.lemmas.List.Elements.{All-nil, All-cons, All-head, All-tail}
 use Rattle.ioam_pcap.specs.declared.form.Form.{Form}
-use Rattle.ioam_pcap.specs.declared.form.Link.{Link}
+use Rattle.ioam_ip.specs.declared.layer.Layer.{Layer}
 use Rattle.ioam_pcap.specs.Entries.{Entry, IsShort, captured, IsWhole, entry_at, behind, Entries}
 use Rattle.ioam_pcap.specs.Ending.{Ending}
 use Rattle.ioam_pcap.specs.Reads.{Reached, Reads}
@@ -22,7 +22,7 @@ Reached-short octets None entries at reached = subst (All IsShort) (sym reached.
 Reached-short octets (Some form) entries at reached = entries-short form octets 24 entries at reached.1
 
 -- of all that are read
-pub Reads-short : (octets : List ℕ) (link : Option Link) (entries : List Entry) (ending : Ending) → Reads octets link entries ending → All IsShort entries
+pub Reads-short : (octets : List ℕ) (link : Option Layer) (entries : List Entry) (ending : Ending) → Reads octets link entries ending → All IsShort entries
 Reads-short octets link entries ending reads = Reached-short octets reads.form entries reads.at reads.reached
 
 -- of the first of them

@@ -6,7 +6,7 @@ use Rattle.ioam_base.specs.Fed.{Kept, passed, with_piece}
 use Rattle.ioam_base.proofs.FedLaws.{last_taken, passed_held}
 use Rattle.ioam_base.proofs.LeadsLaws.{Leads-push}
 use Rattle.ioam_pcap.specs.declared.form.Form.{Form}
-use Rattle.ioam_pcap.specs.declared.form.Link.{Link}
+use Rattle.ioam_ip.specs.declared.layer.Layer.{Layer}
 use Rattle.ioam_pcap.specs.declared.capture.CapFault.{CapFault}
 use Rattle.ioam_pcap.specs.declared.capture.CapFault.TheVariants.{Short}
 use Rattle.ioam_pcap.specs.Form.{HasHead}
@@ -214,11 +214,11 @@ entry_by time original octets e t o s =
 -- a head, these records, and a rest that begins no whole record
 cap_by : (reader : Reading) (octets : List ℕ) (entries : List Entry) (form : Option Form) → reader.form ≡ form → Stands reader octets entries
     → ((f : Form) → form ≡ Some f → IsWhole f octets reader.start → ⊥) → IsCap octets entries reader
-cap_by reader octets entries None none stands stops = λ link linked. let wrong : ◌≡◌ {A = Option Link} None (Some link) = ap link_by (sym none) ∙ linked in absurd (cc)
+cap_by reader octets entries None none stands stops = λ link linked. let wrong : ◌≡◌ {A = Option Layer} None (Some link) = ap link_by (sym none) ∙ linked in absurd (cc)
 cap_by reader octets entries (Some form) some stands stops = λ link linked.
     let Q : Option Form → Type 0 = λ f. Reached octets f entries reader.start in
     let reached = subst Q some stands.reached in
-    let same : ◌≡◌ {A = Option Link} (Some form.link) (Some link) = ap link_by (sym some) ∙ linked in
+    let same : ◌≡◌ {A = Option Layer} (Some form.link) (Some link) = ap link_by (sym some) ∙ linked in
     record { form = form; head = reached.0; linked = cc; leads = reached.1; stops = stops form refl }
 
 pub IsCap-cut : (reader : Reading) (octets : List ℕ) (entries : List Entry) → Stands reader octets entries → CutAt octets reader.form reader.start → IsCap octets entries reader

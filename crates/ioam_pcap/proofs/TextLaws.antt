@@ -5,7 +5,7 @@ use Rattle.std.proofs.lemmas.List.Elements.{All-nil, All-head, All-tail, All-pus
 use Rattle.std.specs.Result.{OnOk, is_ok}
 use Rattle.std.proofs.Math.Seq.{drop-append_seam, take-append_seam}
 use Rattle.ioam_base.specs.Octets.{u32_at}
-use Rattle.ioam_pcap.specs.declared.form.Link.TheVariants.{Raw}
+use Rattle.ioam_ip.specs.declared.layer.Layer.TheVariants.{Raw}
 use Rattle.ioam_pcap.specs.declared.form.Order.TheVariants.{Big}
 use Rattle.ioam_pcap.specs.declared.form.Fraction.TheVariants.{Nano}
 use Rattle.ioam_pcap.specs.declared.form.Form.{Form}
@@ -106,7 +106,7 @@ Entries-text front (s ∷ sent) fits =
 
 -- the head that is written
 HasHead-text : (rest : List ℕ) → HasHead (head_octets ++ rest) written_form
-HasHead-text rest = (omega (arith, length-append head_octets rest), refl, inl refl)
+HasHead-text rest = (omega (arith, length-append head_octets rest), refl, (1, omega arith, refl))
 
 -- a capture of packets that may be written reads as these packets, to its end
 pub Reads-text : (sent : List Sent) → All IsSendable sent → Reads (capture_text sent) (Some Raw) (map entry_sent sent) Whole

@@ -5,7 +5,7 @@ use Rattle.ioam_base.specs.Leads.{Leads}
 use Rattle.ioam_pcap.specs.declared.form.Fraction.{Fraction}
 use Rattle.ioam_pcap.specs.declared.form.Fraction.TheVariants.{Micro, Nano}
 use Rattle.ioam_pcap.specs.declared.form.Form.{Form}
-use Rattle.ioam_pcap.specs.declared.form.Link.{Link}
+use Rattle.ioam_ip.specs.declared.layer.Layer.{Layer}
 use Rattle.ioam_pcap.specs.Form.{number_at}
 
 -- what a record says: nanoseconds, the octets that the packet had, and those that were captured
@@ -16,7 +16,7 @@ pub record Entry : Type 0 where
 
 -- a record that was taken of a capture, and the layer that its octets begin at
 pub record Taken : Type 0 where
-  pub link : Link
+  pub link : Layer
   pub entry : Entry
 
 -- the most octets that a record may have

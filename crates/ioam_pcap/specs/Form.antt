@@ -1,10 +1,9 @@
 -- The head of a classic capture file, 24 octets: a magic number, a version (two 16-bit numbers),
 -- and four 32-bit numbers, of which the last is the link type. The version and the three other
 -- numbers are not tested.
-use Rattle.std.specs.Prelude.{◌≡◌, ◌≢◌, ℕ, ◌+◌, ◌*◌, ◌≤◌, ◌⊎◌, List, length, slice_index}
+use Rattle.std.specs.Prelude.{◌≡◌, ◌≢◌, ℕ, ◌+◌, ◌*◌, ◌≤◌, List, length, slice_index}
 use Rattle.ioam_base.specs.Octets.{u32_at}
-use Rattle.ioam_pcap.specs.declared.form.Link.{Link}
-use Rattle.ioam_pcap.specs.declared.form.Link.TheVariants.{Ethernet, Raw}
+use Rattle.ioam_pcap.specs.Link.{IsLinkType}
 use Rattle.ioam_pcap.specs.declared.form.Order.{Order}
 use Rattle.ioam_pcap.specs.declared.form.Order.TheVariants.{Big, Little}
 use Rattle.ioam_pcap.specs.declared.form.Fraction.{Fraction}
@@ -27,15 +26,6 @@ spelling Little Nano = 0x4d3cb2a1
 -- none of these four
 abbrev pub IsUnspelled : ℕ → Type 0
 IsUnspelled magic = (magic ≢ 0xa1b2c3d4) × (magic ≢ 0xa1b23c4d) × (magic ≢ 0xd4c3b2a1) × (magic ≢ 0x4d3cb2a1)
-
--- the link types that are read: Ethernet, and IP of either version or of version 6 alone
-abbrev pub IsLinkType : ℕ → Link → Type 0
-IsLinkType number Ethernet = number ≡ 1
-IsLinkType number Raw = (number ≡ 101) ⊎ (number ≡ 229)
-
--- the number is none of the link types that are read
-abbrev pub IsNoLinkType : ℕ → Type 0
-IsNoLinkType number = (number ≢ 1) × (number ≢ 101) × (number ≢ 229)
 
 -- these octets begin with a head of this form
 abbrev pub HasHead : List ℕ → Form → Type 0

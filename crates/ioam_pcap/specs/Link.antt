@@ -1,13 +1,23 @@
--- What the octets of a record begin with.
-use Rattle.std.specs.Prelude.{ℕ, Bool, true, false, ◌==◌, ◌||◌, Option, Some, None, if◌then◌else◌}
-use Rattle.ioam_pcap.specs.declared.form.Link.{Link}
-use Rattle.ioam_pcap.specs.declared.form.Link.TheVariants.{Ethernet, Raw}
+-- The link types of captures.
+use Rattle.std.specs.Prelude.{ℕ, List, [], ◌∷◌, Option, nat_eq}
+use Rattle.std.specs.List.{Contains}
+use Rattle.std.specs.Map.{lookup}
+use Rattle.ioam_ip.specs.declared.layer.Layer.{Layer}
+use Rattle.ioam_ip.specs.declared.layer.Layer.TheVariants.{Ethernet, Raw}
 
--- they begin with an Ethernet header
-abbrev pub is_ethernet : Link → Bool
-is_ethernet Ethernet = true
-is_ethernet Raw = false
+-- those that are read, each with the layer that its frames begin at: Ethernet, IP of either version, and
+-- version 6 alone
+abbrev pub link_types : List (ℕ × Layer)
+link_types = (1, Ethernet) ∷ (101, Raw) ∷ (229, Raw) ∷ []
 
--- by the link type of a capture: Ethernet is 1, IP of either version 101 and of version 6 alone 229
-abbrev pub link_type : ℕ → Option Link
-link_type number = if number == 1 then Some Ethernet else if (number == 101) || (number == 229) then Some Raw else None
+-- the number is a link type of this layer
+abbrev pub IsLinkType : ℕ → Layer → Type 0
+IsLinkType number layer = Contains link_types (number, layer)
+
+-- the number is none of the link types that are read
+abbrev pub IsNoLinkType : ℕ → Type 0
+IsNoLinkType number = (layer : Layer) → IsLinkType number layer → ⊥
+
+-- the layer of a link type
+abbrev pub link_type : ℕ → Option Layer
+link_type number = lookup (nat_eq number) link_types

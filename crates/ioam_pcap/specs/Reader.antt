@@ -2,7 +2,7 @@
 use Rattle.std.specs.Prelude.{◌≡◌, ℕ, ◌+◌, ◌<◌, ◌≤◌, ◌^◌, List, [], ◌∷◌, ◌++◌, length, drop, Option, Some, None}
 use Rattle.std.specs.Io.BufRead.{Rests}
 use Rattle.std.specs.Borrow.{Fml, MutBor}
-use Rattle.ioam_pcap.specs.declared.form.Link.{Link}
+use Rattle.ioam_ip.specs.declared.layer.Layer.{Layer}
 use Rattle.ioam_pcap.specs.declared.capture.CapFault.{CapFault}
 use Rattle.ioam_pcap.specs.declared.capture.Packet as packet
 use Rattle.ioam_pcap.specs.declared.capture.CapStep.{CapStep}
@@ -42,7 +42,7 @@ abbrev pub HoldsFew : Reading → Type 0
 HoldsFew reader = length reader.pending < most_size
 
 -- the layer that the packets begin at, once the head was read
-abbrev pub link_of : Reading → Option Link
+abbrev pub link_of : Reading → Option Layer
 link_of reader = link_by reader.form
 
 -- what a packet shows of its record
@@ -88,7 +88,7 @@ shown_by (Bad at fault) = FaultShown fault
 -- once the head was read, the octets are it, exactly these records, and a rest that begins no whole
 -- record
 abbrev pub IsCap : List ℕ → List Entry → Reading → Type 0
-IsCap octets entries reader = (link : Link) → link_of reader ≡ Some link → Cap octets link entries reader.start
+IsCap octets entries reader = (link : Layer) → link_of reader ≡ Some link → Cap octets link entries reader.start
 
 -- what the reader stands for behind a step; a capture with a fault ends there, whatever is fed, and
 -- reads in this way alone

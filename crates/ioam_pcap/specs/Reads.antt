@@ -1,13 +1,14 @@
 -- How a capture reads: a head, the records behind it, and how it ends.
 use Rattle.std.specs.Prelude.{◌≡◌, ℕ, ◌+◌, ◌≤◌, ◌<◌, ◌⊎◌, List, [], length, Option, Some, None, IsSome, option_map}
 use Rattle.ioam_base.specs.Octets.{u32_at}
-use Rattle.ioam_pcap.specs.declared.form.Link.{Link}
+use Rattle.ioam_ip.specs.declared.layer.Layer.{Layer}
 use Rattle.ioam_pcap.specs.declared.form.Order.{Order}
 use Rattle.ioam_pcap.specs.declared.form.Fraction.{Fraction}
 use Rattle.ioam_pcap.specs.declared.form.Form.{Form}
 use Rattle.ioam_pcap.specs.declared.capture.CapFault.{CapFault}
 use Rattle.ioam_pcap.specs.declared.capture.CapFault.TheVariants as fault
-use Rattle.ioam_pcap.specs.Form.{number_at, spelling, IsUnspelled, IsNoLinkType, HasHead}
+use Rattle.ioam_pcap.specs.Form.{number_at, spelling, IsUnspelled, HasHead}
+use Rattle.ioam_pcap.specs.Link.{IsNoLinkType}
 use Rattle.ioam_pcap.specs.Ending.{Ending, Whole, Faulty}
 use Rattle.ioam_pcap.specs.Entries.{Entry, most, captured, IsWhole, entry_at, Entries}
 
@@ -57,7 +58,7 @@ EntryAt octets (Some form) at entry = IsWhole form octets at × (entry ≡ entry
 -- what stands at a place that was reached: a head, a record, the front of one of them or nothing, or
 -- a fault
 pub data Shown : Type 0 where
-  HeadShown : Link → Shown
+  HeadShown : Layer → Shown
   EntryShown : Entry → Shown
   CutShown : Shown
   FaultShown : CapFault → Shown
@@ -79,12 +80,12 @@ EndsAt octets form at Whole = IsSome form × (at ≡ length octets)
 EndsAt octets form at (Faulty place f) = (place ≡ at) × (FaultAt octets form at f ⊎ IsShort octets form at f)
 
 -- the layer that the packets begin at, by the form of the head
-abbrev pub link_by : Option Form → Option Link
+abbrev pub link_by : Option Form → Option Layer
 link_by form = option_map (λ f. f.link) form
 
 -- a file of these octets is a head for this link (without one it has no whole head), these records
 -- one behind the other, and ends so
-pub record Reads (octets : List ℕ) (link : Option Link) (entries : List Entry) (ending : Ending) : Type 0 where
+pub record Reads (octets : List ℕ) (link : Option Layer) (entries : List Entry) (ending : Ending) : Type 0 where
   pub form : Option Form
   pub at : ℕ
   pub reached : Reached octets form entries at
@@ -92,13 +93,13 @@ pub record Reads (octets : List ℕ) (link : Option Link) (entries : List Entry)
   pub linked : link ≡ link_by form
 
 -- and the octets read in no other way
-abbrev pub ReadsOnly : List ℕ → Option Link → List Entry → Ending → Type 0
-ReadsOnly octets link entries ending = (other : Option Link) (others : List Entry) (end : Ending) → Reads octets other others end
+abbrev pub ReadsOnly : List ℕ → Option Layer → List Entry → Ending → Type 0
+ReadsOnly octets link entries ending = (other : Option Layer) (others : List Entry) (end : Ending) → Reads octets other others end
     → (other ≡ link) × (others ≡ entries) × (end ≡ ending)
 
 -- the octets have a head for this link, exactly these records from place 24 up to a place, and there
 -- no whole record
-pub record Cap (octets : List ℕ) (link : Link) (entries : List Entry) (rest : ℕ) : Type 0 where
+pub record Cap (octets : List ℕ) (link : Layer) (entries : List Entry) (rest : ℕ) : Type 0 where
   pub form : Form
   pub head : HasHead octets form
   pub linked : link ≡ form.link

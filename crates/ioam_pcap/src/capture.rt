@@ -2,7 +2,7 @@
 ghost use Rattle.std.specs.Prelude.{◌≡◌};
 ghost use Rattle.ioam_pcap.specs.Cut.{is_cut};
 
-use crate::form::Link;
+use ioam_ip::Layer;
 
 /// The most octets of a packet that a capture may have.
 pub const MOST_PACKET: u32 = 262_144;
@@ -69,7 +69,7 @@ pub enum CapFault {
 #[derive(Clone, Copy, Debug)]
 pub enum CapStep<'a> {
     /// The head was read: its packets begin at this layer.
-    Head { link: Link },
+    Head { link: Layer },
     /// A record was read.
     Packet(Packet<'a>),
     /// More octets are needed, or the capture's end.
@@ -82,7 +82,7 @@ pub enum CapStep<'a> {
 #[derive(Clone, Copy, Debug, PartialEq, Eq)]
 pub enum CapLook {
     /// A head: the capture's packets begin at this layer.
-    Head { link: Link },
+    Head { link: Layer },
     /// A record of a packet with this time, in nanoseconds, and so many captured octets.
     Packet { time: u64, size: u32 },
     /// More octets are needed, or the capture's end.

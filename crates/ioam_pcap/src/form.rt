@@ -1,23 +1,8 @@
 //! What the head of a capture says of its records.
 ghost use Rattle.std.specs.Prelude.{◌≡◌, MatchOption};
-ghost use Rattle.ioam_pcap.specs.Form.{IsLinkType, IsNoLinkType};
-ghost use Rattle.ioam_pcap.specs.Link.{is_ethernet, link_type};
+ghost use Rattle.ioam_pcap.specs.Link.{IsLinkType, IsNoLinkType, link_type};
 
-/// The layer that the packets of a capture begin at.
-#[derive(Clone, Copy, Debug, PartialEq, Eq)]
-pub enum Link {
-    /// An Ethernet header (link type 1).
-    Ethernet,
-    /// An IP header (link types 101 and 229).
-    Raw,
-}
-
-/// Whether octets that begin at this layer begin with an Ethernet header.
-pub fn is_ethernet(link: Link) -> bool
-    ensures { result ≡ is_ethernet link }
-{
-    matches!(link, Link::Ethernet)
-}
+use ioam_ip::Layer;
 
 /// The link type of packets that begin with an Ethernet header.
 pub const ETHERNET: u32 = 1;
@@ -29,13 +14,14 @@ pub const RAW: u32 = 101;
 const IPV6: u32 = 229;
 
 /// The layer that the packets of a link type begin at; None for a type that is not read.
-pub fn link_type(number: u32) -> Option<Link>
+#[tactic(auto, using(crate::proofs::LinkLaws::link_type_says))]
+pub fn link_type(number: u32) -> Option<Layer>
     ensures exact { result ≡ link_type number }
     ensures says { MatchOption result (IsNoLinkType number) (λ link. IsLinkType number link) }
 {
     match number {
-        ETHERNET => Some(Link::Ethernet),
-        RAW | IPV6 => Some(Link::Raw),
+        ETHERNET => Some(Layer::Ethernet),
+        RAW | IPV6 => Some(Layer::Raw),
         _ => None,
     }
 }
@@ -61,5 +47,5 @@ pub enum Fraction {
 pub struct Form {
     pub order: Order,
     pub fraction: Fraction,
-    pub link: Link,
+    pub link: Layer,
 }

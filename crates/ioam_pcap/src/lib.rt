@@ -13,7 +13,8 @@ mod put;
 mod reader;
 
 pub use capture::{CapFault, CapLook, CapStep, MOST_PACKET, Packet};
-pub use form::{ETHERNET, Link, Order, RAW, is_ethernet, link_type};
+pub use form::{ETHERNET, Order, RAW, link_type};
+pub use ioam_ip::Layer as Link;
 pub use numbers::number_at;
 pub use picking::pick;
 pub use put::{put_head, put_record};

@@ -4,7 +4,7 @@ ghost use Rattle.ioam_pcap.specs.Entries.{most};
 ghost use Rattle.ioam_pcap.specs.Ending.{Whole};
 ghost use Rattle.ioam_pcap.specs.Reads.{Reads};
 ghost use Rattle.ioam_pcap.specs.Text.{Sent, IsSendable, head_octets, record_head, record_octets, capture_text, entry_sent, with_sent};
-ghost use Rattle.ioam_pcap.specs.declared.form.Link.TheVariants as Link;
+ghost use Rattle.ioam_ip.specs.declared.layer.Layer.TheVariants as Layer;
 
 use crate::capture::MOST_PACKET;
 use crate::form::RAW;
@@ -37,7 +37,7 @@ pub fn put_head(out: &mut Vec<u8>) -> Result<(), NoMemory>
     ensures octets { out.new.items
         ≡ (if is_ok result then out.old.items ++ head_octets else out.old.items) }
     ensures begins { out.old.items ≡ [] → OnOk result (out.new.items ≡ capture_text []) }
-    ensures reads { out.old.items ≡ [] → OnOk result (Reads out.new.items (Some Link.Raw) [] Whole) }
+    ensures reads { out.old.items ≡ [] → OnOk result (Reads out.new.items (Some Layer.Raw) [] Whole) }
 {
     append(out, &head())
 }
@@ -88,7 +88,7 @@ pub fn put_record(time: u64, packet: &[u8], out: &mut Vec<u8>) -> Result<(), NoM
 
     // which reads as these packets.
     ensures reads { (sent : List Sent) → All IsSendable sent → out.old.items ≡ capture_text sent
-        → OnOk result (Reads out.new.items (Some Link.Raw)
+        → OnOk result (Reads out.new.items (Some Layer.Raw)
         (map entry_sent (with_sent sent time packet.now)) Whole) }
 {
     append_record(time, packet, out)

@@ -4,10 +4,11 @@ ghost use Rattle.std.specs.Borrow.{sem};
 
 use crate::capture::{CapFault, CapLook, CapStep, Packet};
 use crate::entry::{EntryStep, entry_step};
-use crate::form::{Form, Link};
+use crate::form::Form;
 use crate::head::{HeadStep, head_step};
 use ioam_base::fed::Fed;
 use ioam_base::memory::NoMemory;
+use ioam_ip::Layer;
 use std::alloc::Global;
 use std::marker::Model;
 
@@ -57,7 +58,7 @@ impl CaptureReader {
     }
 
     /// The layer that the packets begin at, once the head was read.
-    pub fn link(&self) -> Option<Link>
+    pub fn link(&self) -> Option<Layer>
         ensures { result ≡ link_of self.now }
     {
         let form = self.form?;
