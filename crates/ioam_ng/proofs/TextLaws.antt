@@ -10,8 +10,8 @@ use Rattle.std.proofs.Math.Seq.{drop-append_seam, take-append_seam}
 use Rattle.ioam_base.specs.Octets.{u32_at}
 use Rattle.ioam_base.specs.Words.{four_octets}
 use Rattle.ioam_base.proofs.LeadsLaws.{Leads-append}
-use Rattle.ioam_pcap.specs.declared.form.Link.{Link}
-use Rattle.ioam_pcap.specs.declared.form.Link.TheVariants.{Ethernet, Raw}
+use Rattle.ioam_ip.specs.declared.layer.Layer.{Layer}
+use Rattle.ioam_ip.specs.declared.layer.Layer.TheVariants.{Ethernet, Raw}
 use Rattle.ioam_pcap.specs.Link.{link_type}
 use Rattle.ioam_ng.specs.declared.face.Face.{Face}
 use Rattle.ioam_pcap.specs.declared.capture.CapFault.TheVariants as fault
@@ -19,11 +19,11 @@ use Rattle.ioam_pcap.specs.declared.form.Order.TheVariants.{Big}
 use Rattle.ioam_ng.specs.Face.{time_of, time_between}
 use Rattle.ioam_ng.specs.Checks.{first}
 use Rattle.ioam_ng.specs.Front.{Known, is_front, front_fault}
-use Rattle.ioam_ng.specs.Blocks.{Place, CanPass, packet_there, behind, Blocks, packets, front, fault_in, is_whole, packet_in, block_fault, packet_fault, packet_of, packet_from, packet_checks, block_checks, link_of, units, trail}
+use Rattle.ioam_ng.specs.Blocks.{Place, CanPass, packet_there, behind, Blocks, packets, front, fault_in, is_whole, packet_in, block_fault, packet_fault, packet_of, packet_from, packet_checks, block_checks, units, trail}
 use Rattle.ioam_pcap.specs.Entries.{Taken}
 use Rattle.ioam_pcap.specs.Ending.{Whole}
 use Rattle.ioam_ng.specs.Reads.{Reads}
-use Rattle.ioam_ng.specs.Text.{head_octets, face_for, padding, packet_size, packet_front, packet_numbers, packet_tail, packet_octets, packets_text, capture_text, IsSendable}
+use Rattle.ioam_ng.specs.Text.{head_octets, face_kinds, face_for, padding, packet_size, packet_front, packet_numbers, packet_tail, packet_octets, packets_text, capture_text, IsSendable}
 use Rattle.ioam_ng.proofs.ReadsLaws.{Blocks-behind}
 
 -- a number's four octets are the number
@@ -40,7 +40,7 @@ abbrev face_of_kind : ℕ → Face
 face_of_kind kind = record { kind = kind; resolution = 9; offset = 0 }
 
 abbrev faces : List Face
-faces = face_of_kind 101 ∷ face_of_kind 1 ∷ []
+faces = map face_of_kind face_kinds
 
 abbrev known_by : ℕ → Known
 known_by count = record { count = count; order = Some Big; faces = faces }
@@ -48,26 +48,10 @@ known_by count = record { count = count; order = Some Big; faces = faces }
 abbrev place_by : ℕ → List ℕ → Place
 place_by count octets = record { known = known_by count; octets = octets }
 
--- the interface of a link
-abbrev kind_for : Link → ℕ
-kind_for Raw = 101
-kind_for Ethernet = 1
-
-face_small : (link : Link) → face_for link < 4294967296
-face_small Raw = omega arith
-face_small Ethernet = omega arith
-
-face_there : (link : Link) → slice_get faces (face_for link) ≡ Some (face_of_kind (kind_for link))
-face_there Raw = refl
-face_there Ethernet = refl
-
-face_linked : (link : Link) → is_none (link_type (face_of_kind (kind_for link)).kind) ≡ false
-face_linked Raw = refl
-face_linked Ethernet = refl
-
-link_same : (link : Link) → link_of (face_of_kind (kind_for link)) ≡ link
-link_same Raw = refl
-link_same Ethernet = refl
+-- the interface of a layer is there, and of a link type that says this layer
+face_of_layer : (layer : Layer) → (kind : ℕ) × (face_for layer < 4294967296) × (slice_get faces (face_for layer) ≡ Some (face_of_kind kind)) × (link_type kind ≡ Some layer)
+face_of_layer Raw = (101, omega arith, refl, refl)
+face_of_layer Ethernet = (1, omega arith, refl, refl)
 
 -- the head is three blocks without a packet
 Blocks-head : Blocks (front head_octets) (None ∷ None ∷ None ∷ []) (record { known = known_by 3; octets = [] })
@@ -150,6 +134,9 @@ module _ (p : Taken) (fits : IsSendable p) where
 
   -- it has no fault
   module _ (count : ℕ) (few : count < 33554432) where
+    abbrev kind : ℕ
+    kind = (face_of_layer p.link).0
+
     sized : front_fault count (Some Big) block ≡ None
     sized =
         let there : is_front block ≡ true = le-leb 8 (length block) (omega (arith, block_long)) in
@@ -187,19 +174,22 @@ module _ (p : Taken) (fits : IsSendable p) where
         if not (trailed i) then Some (fault.Trail (trail Big block)) else None
 
     number_read : u32_at block 8 ≡ face_for p.link
-    number_read = number_of_word (face_for p.link) (face_small p.link)
+    number_read = number_of_word (face_for p.link) (face_of_layer p.link).1
 
-    face_got : slice_get faces (u32_at block 8) ≡ Some (face_of_kind (kind_for p.link))
-    face_got = ap (slice_get faces) number_read ∙ face_there p.link
+    face_got : slice_get faces (u32_at block 8) ≡ Some (face_of_kind kind)
+    face_got = ap (slice_get faces) number_read ∙ (face_of_layer p.link).2
 
-    time_got : time_of (face_of_kind (kind_for p.link)) (units Big block) ≡ Some p.entry.time
-    time_got = time_read (kind_for p.link) p.entry.time (units Big block) units_read fits.1
+    linked : link_type kind ≡ Some p.link
+    linked = (face_of_layer p.link).3
+
+    time_got : time_of (face_of_kind kind) (units Big block) ≡ Some p.entry.time
+    time_got = time_read kind p.entry.time (units Big block) units_read fits.1
 
     recorded : nat_lt 262144 (u32_at block 20) ≡ false
     recorded = le-ltb 262144 (u32_at block 20) (omega (arith, captured_read, fits.0))
 
-    packet_checked : first (packet_checks Big block (face_of_kind (kind_for p.link))) ≡ None
-    packet_checked = λ i. if face_linked p.link i then Some (fault.Link (kind_for p.link)) else
+    packet_checked : first (packet_checks Big block (face_of_kind kind)) ≡ None
+    packet_checked = λ i. if is_none (linked i) then Some (fault.Link kind) else
         if recorded i then Some (fault.RecordLong (u32_at block 20)) else
         if is_none (time_got i) then Some (fault.Time (units Big block)) else None
 
@@ -213,9 +203,9 @@ module _ (p : Taken) (fits : IsSendable p) where
     octets_read : take (u32_at block 20) (drop 28 block) ≡ p.entry.octets
     octets_read = ap (λ n. take n (drop 28 block)) captured_read ∙ take-append_seam p.entry.octets (packet_tail many)
 
-    packet_same : packet_of Big block (face_of_kind (kind_for p.link)) ≡ p
+    packet_same : packet_of Big block (face_of_kind kind) ≡ p
     packet_same = λ i. record {
-      link = link_same p.link i;
+      link = unwrap_or (linked i) Raw;
       entry = record { time = unwrap_or (time_got i) 0; original = original_read i; octets = octets_read i };
     }
 

@@ -3,8 +3,8 @@
 use Rattle.std.specs.Prelude.{◌≡◌, ℕ, ◌+◌, ◌-◌, ◌*◌, List, [], ◌∷◌, ◌++◌, Bool, true, false, not, ◌==◌, ◌&&◌, ◌||◌, nat_lt, nat_le, is_none, if◌then◌else◌, length, take, drop, slice_get, Option, Some, None, option_to_list, unwrap_or}
 use Rattle.std.specs.Option.{option_or}
 use Rattle.ioam_base.specs.Leads.{Leads}
-use Rattle.ioam_pcap.specs.declared.form.Link.{Link}
-use Rattle.ioam_pcap.specs.declared.form.Link.TheVariants.{Raw}
+use Rattle.ioam_ip.specs.declared.layer.Layer.{Layer}
+use Rattle.ioam_ip.specs.declared.layer.Layer.TheVariants.{Raw}
 use Rattle.ioam_pcap.specs.Link.{link_type}
 use Rattle.ioam_pcap.specs.Entries.{Taken}
 use Rattle.ioam_ng.specs.declared.face.Face.{Face}
@@ -19,7 +19,7 @@ use Rattle.ioam_ng.specs.Checks.{Check, first}
 use Rattle.ioam_ng.specs.Front.{Known, is_front, order_in, kind_in, size_in, front_fault}
 
 -- the layer that the packets of an interface begin at, where its link type is one that is read
-abbrev pub link_of : Face → Link
+abbrev pub link_of : Face → Layer
 link_of face = unwrap_or (link_type face.kind) Raw
 
 -- ---- a whole block, in the order of its section

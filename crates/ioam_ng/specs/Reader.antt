@@ -3,7 +3,7 @@ use Rattle.std.specs.Prelude.{◌≡◌, ⊤, ℕ, ◌+◌, ◌<◌, ◌≤◌, 
 use Rattle.std.specs.Io.BufRead.{Rests}
 use Rattle.std.specs.Borrow.{Fml, MutBor}
 use Rattle.ioam_ng.specs.declared.face.Face.{Face}
-use Rattle.ioam_pcap.specs.declared.form.Link.{Link}
+use Rattle.ioam_ip.specs.declared.layer.Layer.{Layer}
 use Rattle.ioam_pcap.specs.declared.capture.Packet as packet
 use Rattle.ioam_pcap.specs.declared.capture.CapFault.{CapFault}
 use Rattle.ioam_ng.specs.declared.block.Block.{Block}
@@ -126,7 +126,7 @@ Steps old new (found.Bad fault) = (new ≡ old) × IsDue old (found.Bad fault)
 Steps old new found.NoMemory = (new ≡ old) × IsDue old found.NoMemory
 
 -- what a packet shows of its block
-abbrev pub shown_of : Link → packet.Packet → Taken
+abbrev pub shown_of : Layer → packet.Packet → Taken
 shown_of link p = record { link = link; entry = record { time = p.time; original = p.original; octets = p.octets.now } }
 
 -- the packets that a step gives: one, or none

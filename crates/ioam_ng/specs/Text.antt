@@ -2,9 +2,10 @@
 -- first of packets that begin with an IP header (link type 101), the second of packets with an
 -- Ethernet header (link type 1), both in nanoseconds and with at most 262,144 octets of a packet.
 use Rattle.std.specs.Prelude.{ℕ, ◌+◌, ◌-◌, ◌/◌, ◌%◌, ◌<◌, ◌≤◌, List, [], ◌∷◌, ◌++◌, length, take}
-use Rattle.ioam_base.specs.Words.{four_octets}
-use Rattle.ioam_pcap.specs.declared.form.Link.{Link}
-use Rattle.ioam_pcap.specs.declared.form.Link.TheVariants.{Ethernet, Raw}
+use Rattle.std.specs.List.{flat_map}
+use Rattle.ioam_base.specs.Words.{two_octets, four_octets}
+use Rattle.ioam_ip.specs.declared.layer.Layer.{Layer}
+use Rattle.ioam_ip.specs.declared.layer.Layer.TheVariants.{Ethernet, Raw}
 use Rattle.ioam_pcap.specs.declared.capture.Packet as packet
 use Rattle.ioam_pcap.specs.Entries.{Taken}
 
@@ -15,15 +16,19 @@ section_octets = 0x0a ∷ 0x0d ∷ 0x0d ∷ 0x0a ∷ 0 ∷ 0 ∷ 0 ∷ 0x1c ∷ 
 
 -- an interface block of a link type, with the resolution 9 and the end of its options
 abbrev pub face_octets : ℕ → List ℕ
-face_octets kind = 0 ∷ 0 ∷ 0 ∷ 1 ∷ 0 ∷ 0 ∷ 0 ∷ 0x20 ∷ 0 ∷ kind ∷ 0 ∷ 0 ∷ 0 ∷ 4 ∷ 0 ∷ 0
-    ∷ 0 ∷ 9 ∷ 0 ∷ 1 ∷ 9 ∷ 0 ∷ 0 ∷ 0 ∷ 0 ∷ 0 ∷ 0 ∷ 0 ∷ 0 ∷ 0 ∷ 0 ∷ 0x20 ∷ []
+face_octets kind = (0 ∷ 0 ∷ 0 ∷ 1 ∷ 0 ∷ 0 ∷ 0 ∷ 0x20 ∷ []) ++ (two_octets kind ++ (0 ∷ 0 ∷ 0 ∷ 4 ∷ 0 ∷ 0
+    ∷ 0 ∷ 9 ∷ 0 ∷ 1 ∷ 9 ∷ 0 ∷ 0 ∷ 0 ∷ 0 ∷ 0 ∷ 0 ∷ 0 ∷ 0 ∷ 0 ∷ 0 ∷ 0x20 ∷ []))
 
--- the octets with which a capture begins: the section block and the two interface blocks
+-- the link types of the interfaces, in order
+abbrev pub face_kinds : List ℕ
+face_kinds = 101 ∷ 1 ∷ []
+
+-- the octets with which a capture begins: the section block and the interface blocks
 abbrev pub head_octets : List ℕ
-head_octets = section_octets ++ (face_octets 101 ++ face_octets 1)
+head_octets = section_octets ++ flat_map face_octets face_kinds
 
--- the interface of a packet's link
-abbrev pub face_for : Link → ℕ
+-- the index of the interface of a packet's layer
+abbrev pub face_for : Layer → ℕ
 face_for Raw = 0
 face_for Ethernet = 1
 
@@ -36,7 +41,7 @@ abbrev pub packet_size : ℕ → ℕ
 packet_size captured = 32 + captured + padding captured
 
 -- the first twelve octets of a packet block: its type, its total length and its interface
-abbrev pub packet_front : Link → ℕ → List ℕ
+abbrev pub packet_front : Layer → ℕ → List ℕ
 packet_front link captured = (four_octets 6 ++ four_octets (packet_size captured)) ++ four_octets (face_for link)
 
 -- the next sixteen: the time in two halves, and how many octets were captured and how many the packet had
@@ -64,7 +69,7 @@ abbrev pub capture_text : List Taken → List ℕ
 capture_text ps = head_octets ++ packets_text ps
 
 -- a packet as it is given
-abbrev pub taken_by : Link → packet.Packet → Taken
+abbrev pub taken_by : Layer → packet.Packet → Taken
 taken_by link p = record { link = link; entry = record { time = p.time; original = p.original; octets = p.octets.now } }
 
 -- it may be written: at most 262,144 octets and a time below 2^62

@@ -34,14 +34,14 @@ fn section_block() -> [u8; 28]
     block
 }
 
-// An interface block of what is written, by the last octet of its link type.
-fn interface_block(kind: u8) -> [u8; 32]
+// An interface block of what is written, by its link type.
+fn interface_block(kind: u16) -> [u8; 32]
     ensures { result ≡ face_octets kind }
 {
     let mut block = [0; 32];
     put_u32_at(&mut block, 0, INTERFACE);
     put_u32_at(&mut block, 4, INTERFACE_SIZE);
-    block[9] = kind;
+    put_u16_at(&mut block, 8, kind);
     put_u32_at(&mut block, 12, MOST_PACKET);
     put_u16_at(&mut block, 16, RESOLUTION);
     put_u16_at(&mut block, 18, 1);
@@ -59,8 +59,8 @@ fn append_blocks(out: &mut Vec<u8>) -> Result<(), NoMemory>
     append(out, &section_block())?;
     let answer = append_two(
         out,
-        &interface_block(RAW as u8),
-        &interface_block(ETHERNET as u8),
+        &interface_block(RAW as u16),
+        &interface_block(ETHERNET as u16),
     );
     settle(out, before, answer)
 }
@@ -77,7 +77,7 @@ pub fn put_ng_head(out: &mut Vec<u8>) -> Result<(), NoMemory>
     append_blocks(out)
 }
 
-// The interface of a packet's link.
+// The index of the interface of a packet's layer.
 fn face_for(link: Link) -> u32
     ensures { result ≡ face_for link }
 {
