@@ -13,7 +13,7 @@ use Rattle.ioam_topo.specs.Keyed.{name_of_link, taps_of, name_of_port, key_of_ro
 use Rattle.ioam_topo.specs.Apart.{AreApart, NodesApart, FlowsApart}
 use Rattle.ioam_topo.specs.Prefixes.{IsPrefix}
 use Rattle.ioam_topo.specs.Known.{IsKnownAtEnds}
-use Rattle.ioam_topo.specs.Sound.{IsNode, IsLink, IsNodeData, IsFlow}
+use Rattle.ioam_topo.specs.Sound.{IsNode, IsLink, IsPort, IsNodeData, IsFlow}
 
 -- the ends of a link are two of so many nodes
 pub record JoinsNodes (nodes : ℕ) (link : Link) : Type 0 where
@@ -67,6 +67,7 @@ pub record SoundLinks (nodes : ℕ) (links : List Link) : Type 0 where
 -- the ports, at so many nodes
 pub record SoundPorts (nodes : ℕ) (ports : List Port) : Type 0 where
   pub placed : All (IsAtNode nodes) ports
+  pub sound : All IsPort ports
   pub few : length ports ≤ 64
   pub apart : AreApart name_of_port ports
 

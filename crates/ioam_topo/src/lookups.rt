@@ -3,7 +3,7 @@ ghost use Rattle.std.specs.Prelude.{◌≡◌, ◌<◌, ◌≤◌, ◌^◌, leng
 ghost use Rattle.std.specs.Str.{bytes_eq};
 ghost use Rattle.std.specs.List.{All};
 ghost use Rattle.ioam_topo.specs.Domain.{is_local, spaces_of};
-ghost use Rattle.ioam_topo.specs.Sound.{IsNode, IsLink};
+ghost use Rattle.ioam_topo.specs.Sound.{IsNode, IsLink, IsPort};
 ghost use Rattle.ioam_topo.specs.Spaces.{knows_space};
 ghost use Rattle.ioam_topo.specs.Apart.{AreApart, NodesApart};
 ghost use Rattle.ioam_topo.specs.Keyed.{name_of_link, taps_of, name_of_port, key_of_route};
@@ -63,6 +63,7 @@ impl Domain {
     pub fn ports(&self) -> &[Port]
         ensures few { length (ports self.now) ≤ 64 }
         ensures places { All (IsAtNode (length (nodes self.now))) result.now }
+        ensures sound { All IsPort result.now }
         ensures apart { AreApart name_of_port result.now }
         ensures value { result.now ≡ ports self.now }
     {
@@ -106,6 +107,7 @@ impl Domain {
         requires { id.0 < length (ports self.now) }
         ensures value { slice_get (ports self.now) id.0 ≡ Some result.now }
         ensures place { IsAtNode (length (nodes self.now)) result.now }
+        ensures sound { IsPort result.now }
     {
         &self.parts.ports[id.0 as usize]
     }

@@ -154,7 +154,9 @@ pub flow_more : (flow : Flow) (t : FlowTrace) → IsFlow flow → IsFlowTrace t 
 flow_more flow t is sound here few others = record {
   source = is.source;
   target = is.target;
+  namespace_below = is.namespace_below;
   hops_some = is.hops_some;
+  hops_below = is.hops_below;
   label_most = is.label_most;
   trace_type = is.trace_type;
   capacity_some = is.capacity_some;
@@ -167,10 +169,12 @@ flow_more flow t is sound here few others = record {
   edge_some = is.edge_some;
   edge_type = is.edge_type;
   direct_type = is.direct_type;
+  direct_below = is.direct_below;
   every_some = is.every_some;
   every_most = is.every_most;
   direct_every = is.direct_every;
   direct_id = is.direct_id;
+  id_below = is.id_below;
 }
 
 pub known_more : (nodes : List Node) (flow : Flow) (t : FlowTrace) → IsKnownAtEnds nodes flow → is_known nodes flow.entry.0 t.namespace.0 ≡ true

@@ -1,17 +1,19 @@
 -- What is true of flows, from what their entries read as.
-use Rattle.std.proofs.Common.{◌≡◌, ◌≤◌, ℕ, Bool, true, false, ◌||◌, codes, List, Option, Some, None, is_some, Result, Ok, Err, refl, subst, arith}
+use Rattle.std.proofs.Common.{◌≡◌, ◌<◌, ◌≤◌, ◌^◌, ℕ, Bool, true, false, cond, ◌||◌, codes, List, Option, Some, None, is_some, Result, Ok, Err, refl, ap, subst, arith}
 use Rattle.std.specs.List.{All}
 use Rattle.std.specs.Option.{ForSome}
 use Rattle.toml.specs.Data.{Data, Members, get_member}
 use Rattle.ioam_data.specs.Kind.{is_entry_type}
 use Rattle.ioam_data.specs.declared.namespace.Namespace.{Namespace}
 use Rattle.ioam_topo_values.specs.declared.why.Why.{Why}
-use Rattle.ioam_topo_values.specs.Reads.{◌▷◌, maybe, optional}
+use Rattle.ioam_topo_values.specs.declared.why.Why.TheVariants.{Range}
+use Rattle.ioam_topo_values.specs.Reads.{◌▷◌, maybe, needed, optional}
 use Rattle.ioam_topo_values.specs.Numbers.{number}
 use Rattle.ioam_topo_values.specs.Types.{trace_type, direct_type, edge_type}
 use Rattle.ioam_topo.specs.declared.prefix.Prefix.{Prefix}
 use Rattle.ioam_topo.specs.Prefixes.{IsPrefix}
 use Rattle.ioam_topo_values.proofs.PrefixSpelledLaws.{key_is_prefix}
+use Rattle.ioam_topo.specs.Spaces.{knows_space}
 use Rattle.ioam_topo.specs.Types.{is_direct_type, is_edge_type}
 use Rattle.ioam_topo.specs.declared.parts.Flow.{Flow}
 use Rattle.ioam_topo.specs.Sound.{IsFlow}
@@ -25,6 +27,7 @@ use Rattle.ioam_topo_flows.specs.declared.flow_parts.Tracing.{Tracing}
 use Rattle.ioam_topo_flows.specs.declared.flow_parts.Exporting.{Exporting}
 use Rattle.ioam_topo_flows.specs.FlowParts.{flow_entry, flow_exit, flow_source, flow_target, flow_space, flow_hops, flow_label, flow_trace, flow_capacity, flow_edge, flow_direct, flow_every, flow_id, flow_limit, selection_of, outer_of, tracing_of, exporting_of}
 use Rattle.ioam_topo_flows.specs.FlowTable.{flow_name, flow_of, flow_with}
+use Rattle.ioam_topo_flows.specs.Spaces.{known_at, known_in}
 
 or_left : (a b : Bool) → a ≡ true → (a || b) ≡ true
 or_left true b on = refl
@@ -35,12 +38,13 @@ or_right true b on = refl
 or_right false b on = on
 
 record IsOuter (o : Outer) : Type 0 where
-  least : 1 ≤ o.hops
-  most : o.label ≤ 1048575
+  hops : (1 ≤ o.hops) × (o.hops ≤ 255)
+  label : o.label ≤ 1048575
 
 record IsSelection (s : Selection) : Type 0 where
   source : IsPrefix s.source
   target : IsPrefix s.target
+  namespace : s.namespace ≤ 65535
 
 record IsTracing (t : Tracing) : Type 0 where
   kind : ForSome t.trace (λ kind. is_entry_type kind ≡ true)
@@ -52,28 +56,31 @@ record IsTracing (t : Tracing) : Type 0 where
 
 record IsExporting (e : Exporting) : Type 0 where
   kind : ForSome e.direct (λ kind. is_direct_type kind ≡ true)
+  below : ForSome e.direct (λ kind. kind < 2 ^ 24)
   least : ForSome e.every (λ n. 1 ≤ n)
   most : ForSome e.every (λ n. n ≤ 1000000)
   counted : is_some e.every ≡ is_some e.direct
   named : is_some e.flow_id ≡ is_some e.direct
+  id : ForSome e.flow_id (λ id. id < 2 ^ 32)
 
 selection_read : (a b : Result ℕ Why) (c d : Result Prefix Why) (e : Result ℕ Why) (s : Selection)
-    → ((p : Prefix) → c ≡ Ok p → IsPrefix p) → ((p : Prefix) → d ≡ Ok p → IsPrefix p)
+    → ((p : Prefix) → c ≡ Ok p → IsPrefix p) → ((p : Prefix) → d ≡ Ok p → IsPrefix p) → ((x : ℕ) → e ≡ Ok x → x ≤ 65535)
     → a ▷ (λ entry. b ▷ (λ exit. c ▷ (λ source. d ▷ (λ target. e ▷ (λ space.
     Ok (record { entry = entry; exit = exit; source = source; target = target; namespace = space })))))) ≡ Ok s → IsSelection s
-selection_read (Ok x) (Ok y) (Ok p) (Ok q) (Ok z) s source target is =
-    let same : record { entry = x; exit = y; source = p; target = q; namespace = z } ≡ s = cc in subst IsSelection same (record { source = source p refl; target = target q refl })
-selection_read (Ok x) (Ok y) (Ok p) (Ok q) (Err why) s source target is = cc
-selection_read (Ok x) (Ok y) (Ok p) (Err why) e s source target is = cc
-selection_read (Ok x) (Ok y) (Err why) d e s source target is = cc
-selection_read (Ok x) (Err why) c d e s source target is = cc
-selection_read (Err why) b c d e s source target is = cc
+selection_read (Ok x) (Ok y) (Ok p) (Ok q) (Ok z) s source target most is =
+    let same : record { entry = x; exit = y; source = p; target = q; namespace = z } ≡ s = cc in
+    subst IsSelection same (record { source = source p refl; target = target q refl; namespace = most z refl })
+selection_read (Ok x) (Ok y) (Ok p) (Ok q) (Err why) s source target most is = cc
+selection_read (Ok x) (Ok y) (Ok p) (Err why) e s source target most is = cc
+selection_read (Ok x) (Ok y) (Err why) d e s source target most is = cc
+selection_read (Ok x) (Err why) c d e s source target most is = cc
+selection_read (Err why) b c d e s source target most is = cc
 
-outer_read : (a b : Result ℕ Why) (o : Outer) → ((x : ℕ) → a ≡ Ok x → 1 ≤ x) → ((x : ℕ) → b ≡ Ok x → x ≤ 1048575)
+outer_read : (a b : Result ℕ Why) (o : Outer) → ((x : ℕ) → a ≡ Ok x → (1 ≤ x) × (x ≤ 255)) → ((x : ℕ) → b ≡ Ok x → x ≤ 1048575)
     → a ▷ (λ hops. b ▷ (λ label. Ok (record { hops = hops; label = label }))) ≡ Ok o → IsOuter o
-outer_read (Ok x) (Ok y) o least most is = let same : record { hops = x; label = y } ≡ o = cc in subst IsOuter same (record { least = least x refl; most = most y refl })
-outer_read (Ok x) (Err why) o least most is = cc
-outer_read (Err why) b o least most is = cc
+outer_read (Ok x) (Ok y) o within most is = let same : record { hops = x; label = y } ≡ o = cc in subst IsOuter same (record { hops = within x refl; label = most y refl })
+outer_read (Ok x) (Err why) o within most is = cc
+outer_read (Err why) b o within most is = cc
 
 tracing_read : (a b c : Result (Option ℕ) Why) (t : Tracing) → ((x y z : Option ℕ) → a ≡ Ok x → b ≡ Ok y → c ≡ Ok z → IsTracing (record { trace = x; capacity = y; edge = z }))
     → a ▷ (λ trace. b ▷ (λ capacity. c ▷ (λ edge. Ok (record { trace = trace; capacity = capacity; edge = edge })))) ≡ Ok t → IsTracing t
@@ -98,7 +105,7 @@ module _ (m : Members) where
   zero_or high (Some d) x is = (number_bounds 0 high d x is).1
 
   outer_facts : (o : Outer) → outer_of m ≡ Ok o → IsOuter o
-  outer_facts o is = outer_read (flow_hops m) (flow_label m) o (λ x read. (needed_bounds 1 255 (get_member (codes "hops") m) x read).0)
+  outer_facts o is = outer_read (flow_hops m) (flow_label m) o (needed_bounds 1 255 (get_member (codes "hops") m))
       (λ x read. zero_or 1048575 (get_member (codes "label") m) x read) is
 
   tracing_facts : (t : Tracing) → tracing_of m ≡ Ok t → IsTracing t
@@ -118,16 +125,21 @@ module _ (m : Members) where
   exporting_facts e is = exporting_read (flow_direct m) (flow_every m) (flow_id m) (flow_limit m) e (λ x y z w a b c.
       let others : Bool = is_some (get_member (codes "every") m) || is_some (get_member (codes "flow_id") m) in
       let direct : maybe direct_type (get_member (codes "direct") m) ≡ Ok x = beside_off others (maybe direct_type (get_member (codes "direct") m)) x a in
+      let id : maybe (number 0 4294967295) (get_member (codes "flow_id") m) ≡ Ok z
+      = beside_off (is_some (get_member (codes "direct") m)) (maybe (number 0 4294967295) (get_member (codes "flow_id") m)) z c in
       let every : maybe (number 1 1000000) (get_member (codes "every") m) ≡ Ok y
       = beside_off (is_some (get_member (codes "direct") m)) (maybe (number 1 1000000) (get_member (codes "every") m)) y b in
       record {
         kind = maybe_for direct_type (λ k. is_direct_type k ≡ true) (λ d n read. passed is_direct_type (number 0 16777215 d) n read) (get_member (codes "direct") m) x direct;
+        below = maybe_for direct_type (λ k. k < 2 ^ 24) (λ d n read.
+            let most = (number_bounds 0 16777215 d n (passed_from is_direct_type (number 0 16777215 d) n read)).1 in omega (arith, most)) (get_member (codes "direct") m) x direct;
         least = maybe_for (number 1 1000000) (λ n. 1 ≤ n) (λ d n read. (number_bounds 1 1000000 d n read).0) (get_member (codes "every") m) y every;
         most = maybe_for (number 1 1000000) (λ n. n ≤ 1000000) (λ d n read. (number_bounds 1 1000000 d n read).1) (get_member (codes "every") m) y every;
         counted = paired direct_type (number 1 1000000) others (get_member (codes "direct") m) (get_member (codes "every") m) x y
             (λ on. or_left (is_some (get_member (codes "every") m)) (is_some (get_member (codes "flow_id") m)) on) a b;
         named = paired direct_type (number 0 4294967295) others (get_member (codes "direct") m) (get_member (codes "flow_id") m) x z
             (λ on. or_right (is_some (get_member (codes "every") m)) (is_some (get_member (codes "flow_id") m)) on) a c;
+        id = maybe_for (number 0 4294967295) (λ n. n < 2 ^ 32) (λ d n read. let most = (number_bounds 0 4294967295 d n read).1 in omega (arith, most)) (get_member (codes "flow_id") m) z id;
       }) is
 
 flow_read : (a : Result (List ℕ) Why) (b : Result Selection Why) (c : Result Outer Why) (d : Result Tracing Why) (e : Result Exporting Why) (flow : Flow)
@@ -142,8 +154,10 @@ flow_read (Ok n) (Ok s) (Ok o) (Ok t) (Ok x) flow chosen around traced exported 
     subst IsFlow same (record {
       source = k.source;
       target = k.target;
-      hops_some = f.least;
-      label_most = f.most;
+      namespace_below = let most = k.namespace in omega (arith, most);
+      hops_some = f.hops.0;
+      hops_below = let most = f.hops.1 in omega (arith, most);
+      label_most = f.label;
       trace_type = g.kind;
       capacity_some = g.least;
       capacity_most = g.most;
@@ -155,10 +169,12 @@ flow_read (Ok n) (Ok s) (Ok o) (Ok t) (Ok x) flow chosen around traced exported 
       edge_some = g.edge_least;
       edge_type = g.edge_kind;
       direct_type = h.kind;
+      direct_below = h.below;
       every_some = h.least;
       every_most = h.most;
       direct_every = h.counted;
       direct_id = h.named;
+      id_below = h.id;
     })
 flow_read (Ok n) (Ok s) (Ok o) (Ok t) (Err why) flow chosen around traced exported is = cc
 flow_read (Ok n) (Ok s) (Ok o) (Err why) e flow chosen around traced exported is = cc
@@ -166,10 +182,29 @@ flow_read (Ok n) (Ok s) (Err why) d e flow chosen around traced exported is = cc
 flow_read (Ok n) (Err why) c d e flow chosen around traced exported is = cc
 flow_read (Err why) b c d e flow chosen around traced exported is = cc
 
+-- a namespace that a node knows is the number that was read
+known_keeps : (list : Result (List Namespace) Why) (n x : ℕ) → known_in list n ≡ Ok x → n ≡ x
+known_keeps (Ok spaces) n x is = by_test (knows_space spaces n) is where
+  by_test : (b : Bool) → cond {A = Result ℕ Why} b (Ok n) (Err Range) ≡ Ok x → n ≡ x
+  by_test true is = cc
+  by_test false is = cc
+known_keeps (Err why) n x is = cc
+
+known_from : (lists : List (Result (List Namespace) Why)) (end r : Result ℕ Why) (x : ℕ) → r ▷ known_at lists end ≡ Ok x → r ≡ Ok x
+known_from lists (Ok i) (Ok n) x is = ap Ok (known_keeps _ n x is)
+known_from lists (Err why) (Ok n) x is = cc
+known_from lists end (Err why) x is = cc
+
 module _ (nodes : List (List ℕ)) (lists : List (Result (List Namespace) Why)) where
+  space_most : (m : Members) (x : ℕ) → flow_space nodes lists m ≡ Ok x → x ≤ 65535
+  space_most m x is =
+      let read : Result ℕ Why = needed (number 0 65535) (get_member (codes "namespace") m) in
+      let entry = known_from lists (flow_exit nodes lists m) (read ▷ known_at lists (flow_entry nodes lists m)) x is in
+      (needed_bounds 0 65535 (get_member (codes "namespace") m) x (known_from lists (flow_entry nodes lists m) read x entry)).1
+
   selection_facts : (m : Members) (s : Selection) → selection_of nodes lists m ≡ Ok s → IsSelection s
   selection_facts m s is = selection_read (flow_entry nodes lists m) (flow_exit nodes lists m) (flow_source m) (flow_target m) (flow_space nodes lists m) s
-      (key_is_prefix (get_member (codes "source") m)) (key_is_prefix (get_member (codes "target") m)) is
+      (key_is_prefix (get_member (codes "source") m)) (key_is_prefix (get_member (codes "target") m)) (space_most m) is
 
   flow_facts : (m : Members) (flow : Flow) → flow_of nodes lists m ≡ Ok flow → IsFlow flow
   flow_facts m flow is = flow_read (flow_name m) (selection_of nodes lists m) (outer_of m) (tracing_of m) (exporting_of m) flow

@@ -1,5 +1,5 @@
 -- The entries of the generated run are as those of every domain.
-use Rattle.std.proofs.Common.{◌≡◌, ◌≤◌, ℕ, true, nat_eq, List, [], ◌∷◌, map, length, Some, slice_get, refl, ap, sym, ◌∙◌, subst, arith}
+use Rattle.std.proofs.Common.{◌≡◌, ◌<◌, ◌≤◌, ◌^◌, ℕ, true, nat_eq, List, [], ◌∷◌, map, length, Some, slice_get, refl, ap, sym, ◌∙◌, subst, arith}
 use Rattle.std.specs.List.{All}
 use Rattle.std.specs.Option.{ForSome}
 use Rattle.std.specs.Str.{bytes_eq}
@@ -20,7 +20,7 @@ use Rattle.ioam_topo.specs.Apart.{AreApart, NodesApart}
 use Rattle.ioam_topo.specs.Prefixes.{IsPrefix}
 use Rattle.ioam_topo.specs.Traces.{IsFlowTrace}
 use Rattle.ioam_topo.specs.Known.{is_known, IsKnownAtEnds}
-use Rattle.ioam_topo.specs.Sound.{IsNode, IsLink, IsNodeData, IsFlow}
+use Rattle.ioam_topo.specs.Sound.{IsNode, IsLink, IsPort, IsNodeData, IsFlow}
 use Rattle.ioam_topo.specs.Kept.{JoinsNodes, JoinsEnds, IsAtNode, IsOfNode, IsRouteOf, SoundNodes, SoundLinks, SoundPorts, SoundRoutes, SoundData, SoundFlows}
 use Rattle.ioam_topo.proofs.ApartLaws.{all_differ, distinct_by, names_differ, numbers_differ, prefixes_differ, apart_by, only_place}
 use Rattle.ioam_topo_generated.specs.Bulk.{link_of, to_last, to_east, bulk_nodes, bulk_links, bulk_ports, bulk_routes, bulk_flow}
@@ -52,7 +52,7 @@ unfolding bulk_nodes
 five_nodes = refl
 
 link_is : (name : List ℕ) (at : ℕ) → IsLink (link_of name at)
-link_is name at = record { delay_most = omega arith; mtu_least = omega arith; mtu_most = omega arith }
+link_is name at = record { out_below = omega arith; in_below = omega arith; delay_most = omega arith; mtu_least = omega arith; mtu_most = omega arith }
 
 links_are : All IsLink bulk_links
 unfolding bulk_links
@@ -76,6 +76,10 @@ four_links = refl
 ports_placed : All (IsAtNode 5) bulk_ports
 unfolding bulk_ports
 ports_placed = two (IsAtNode 5) _ _ (omega arith) (omega arith)
+
+ports_are : All IsPort bulk_ports
+unfolding bulk_ports
+ports_are = two IsPort _ _ (record { id_below = omega arith }) (record { id_below = omega arith })
 
 two_ports : length bulk_ports ≡ 2
 unfolding bulk_ports
@@ -126,7 +130,9 @@ unfolding bulk_flow has is_entry_type undefined table
 bulk_flow_is = record {
   source = record { short = omega arith; rest = refl };
   target = record { short = omega arith; rest = refl };
+  namespace_below = omega arith;
   hops_some = omega arith;
+  hops_below = omega arith;
   label_most = omega arith;
   trace_type = for_one (λ kind. is_entry_type kind ≡ true) 8388608 refl;
   capacity_some = for_one (λ n. 1 ≤ n) 5 (omega arith);
@@ -139,10 +145,12 @@ bulk_flow_is = record {
   edge_some = for_one (λ kind. 1 ≤ kind) 16384 (omega arith);
   edge_type = for_one (λ kind. is_edge_type kind ≡ true) 16384 refl;
   direct_type = for_one (λ kind. is_direct_type kind ≡ true) 8388608 refl;
+  direct_below = for_one (λ kind. kind < 2 ^ 24) 8388608 (omega arith);
   every_some = for_one (λ n. 1 ≤ n) 4 (omega arith);
   every_most = for_one (λ n. n ≤ 1000000) 4 (omega arith);
   direct_every = refl;
   direct_id = refl;
+  id_below = for_one (λ id. id < 2 ^ 32) 1 (omega arith);
 }
 
 -- by names, and by numbers, of which none is equal to one behind it
@@ -195,7 +203,7 @@ links_are_sound = record {
 }
 
 ports_are_sound : SoundPorts 5 bulk_ports
-ports_are_sound = record { placed = ports_placed; few = let n = two_ports in omega (arith, n); apart = ports_apart }
+ports_are_sound = record { placed = ports_placed; sound = ports_are; few = let n = two_ports in omega (arith, n); apart = ports_apart }
 
 routes_are_sound : SoundRoutes 5 bulk_links bulk_ports bulk_routes
 routes_are_sound = record { prefixes = prefixes_are; routed = routes_lead; few = let n = nine_routes in omega (arith, n); apart = routes_apart }

@@ -23,10 +23,19 @@ use Rattle.ioam_topo_network.specs.LinkRead.{from_of}
 use Rattle.ioam_topo_network.specs.PortRead.{node_of_port}
 use Rattle.ioam_topo.specs.Kept.{JoinsNodes, IsAtNode, IsRouteOf, is_of, is_way_from}
 
+-- the numbers of a link are those that its keys read as
+pub record IsLinkRead (from to out_id in_id delay mtu : Result ℕ Why) (link : Link) : Type 0 where
+  pub from_is : from ≡ Ok link.from.0
+  pub to_is : to ≡ Ok link.to.0
+  pub out_id_is : out_id ≡ Ok link.out_id
+  pub in_id_is : in_id ≡ Ok link.in_id
+  pub delay_is : delay ≡ Ok link.delay
+  pub mtu_is : mtu ≡ Ok link.mtu
+
 link_parts : (a : Result (List ℕ) Why) (b c d e f g : Result ℕ Why) (h : Result (Option (List ℕ)) Why) (link : Link)
     → a ▷ (λ name. b ▷ (λ from. c ▷ (λ to. d ▷ (λ out_id. e ▷ (λ in_id. f ▷ (λ delay. g ▷ (λ mtu. h ▷ (λ tap.
     Ok (record { name = name; from = record { 0 = from }; to = record { 0 = to }; out_id = out_id; in_id = in_id; delay = delay; mtu = mtu; tap = tap }))))))))) ≡ Ok link
-    → (b ≡ Ok link.from.0) × (c ≡ Ok link.to.0)
+    → IsLinkRead b c d e f g link
 link_parts (Err why) b c d e f g h link is = cc
 link_parts (Ok name) (Err why) c d e f g h link is = cc
 link_parts (Ok name) (Ok from) (Err why) d e f g h link is = cc
@@ -36,38 +45,47 @@ link_parts (Ok name) (Ok from) (Ok to) (Ok out_id) (Ok in_id) (Err why) g h link
 link_parts (Ok name) (Ok from) (Ok to) (Ok out_id) (Ok in_id) (Ok delay) (Err why) h link is = cc
 link_parts (Ok name) (Ok from) (Ok to) (Ok out_id) (Ok in_id) (Ok delay) (Ok mtu) (Err why) link is = cc
 link_parts (Ok name) (Ok from) (Ok to) (Ok out_id) (Ok in_id) (Ok delay) (Ok mtu) (Ok tap) link is =
-    let P : Result Link Why → Type 0 = λ r. (Ok from ≡ r ▷ (λ l. Ok l.from.0)) × (Ok to ≡ r ▷ (λ l. Ok l.to.0)) in subst P is (refl, refl)
+    let same : record { name = name; from = record { 0 = from }; to = record { 0 = to }; out_id = out_id; in_id = in_id; delay = delay; mtu = mtu; tap = tap } ≡ link = cc in
+    subst (IsLinkRead (Ok from) (Ok to) (Ok out_id) (Ok in_id) (Ok delay) (Ok mtu)) same
+    (record { from_is = refl; to_is = refl; out_id_is = refl; in_id_is = refl; delay_is = refl; mtu_is = refl })
+
+pub link_read : (nodes : List (List ℕ)) (m : Members) (link : Link) → link_of nodes m ≡ Ok link
+    → IsLinkRead (link_from nodes m) (link_to nodes m) (link_out_id m) (link_in_id m) (link_delay m) (link_mtu m) link
+link_read nodes m link is = link_parts (link_name m) (link_from nodes m) (link_to nodes m) (link_out_id m) (link_in_id m) (link_delay m) (link_mtu m)
+    (maybe file_name (get_member (codes "tap") m)) link is
 
 -- a link joins nodes of these names
 pub link_joins : (nodes : List (List ℕ)) (m : Members) (link : Link) → link_of nodes m ≡ Ok link → JoinsNodes (length nodes) link
 link_joins nodes m link is =
-    let both : (link_from nodes m ≡ Ok link.from.0) × (link_to nodes m ≡ Ok link.to.0) = link_parts (link_name m) (link_from nodes m) (link_to nodes m)
-    (link_out_id m) (link_in_id m) (link_delay m) (link_mtu m) (maybe file_name (get_member (codes "tap") m)) link is in
+    let read = link_read nodes m link is in
     let to : needed name (get_member (codes "to") m) ▷ known nodes ▷ differs (Ok link.from.0) ≡ Ok link.to.0 =
-    ap (λ r. needed name (get_member (codes "to") m) ▷ known nodes ▷ differs r) (sym both.0) ∙ both.1 in
+    ap (λ r. needed name (get_member (codes "to") m) ▷ known nodes ▷ differs r) (sym read.from_is) ∙ read.to_is in
     let other : (needed name (get_member (codes "to") m) ▷ known nodes ≡ Ok link.to.0) × (link.from.0 ≢ link.to.0) =
     differs_apart link.from.0 (needed name (get_member (codes "to") m) ▷ known nodes) link.to.0 to in
     record {
-      starts = known_below nodes (needed name (get_member (codes "from") m)) link.from.0 both.0;
+      starts = known_below nodes (needed name (get_member (codes "from") m)) link.from.0 read.from_is;
       ends = known_below nodes (needed name (get_member (codes "to") m)) link.to.0 other.0;
       apart = other.1;
     }
 
 port_parts : (a : Result (List ℕ) Why) (b c : Result ℕ Why) (d : Result (Option (List ℕ)) Why) (e : Result (List ℕ) Why) (port : Port)
     → a ▷ (λ name. b ▷ (λ node. c ▷ (λ id. d ▷ (λ input. e ▷ (λ output.
-    Ok (record { name = name; node = record { 0 = node }; id = id; input = input; output = output })))))) ≡ Ok port → b ≡ Ok port.node.0
+    Ok (record { name = name; node = record { 0 = node }; id = id; input = input; output = output })))))) ≡ Ok port
+    → (b ≡ Ok port.node.0) × (c ≡ Ok port.id)
 port_parts (Err why) b c d e port is = cc
 port_parts (Ok name) (Err why) c d e port is = cc
 port_parts (Ok name) (Ok node) (Err why) d e port is = cc
 port_parts (Ok name) (Ok node) (Ok id) (Err why) e port is = cc
 port_parts (Ok name) (Ok node) (Ok id) (Ok input) (Err why) port is = cc
 port_parts (Ok name) (Ok node) (Ok id) (Ok input) (Ok output) port is =
-    let P : Result Port Why → Type 0 = λ r. Ok node ≡ r ▷ (λ p. Ok p.node.0) in subst P is refl
+    let P : Result Port Why → Type 0 = λ r. (Ok node ≡ r ▷ (λ p. Ok p.node.0)) × (Ok id ≡ r ▷ (λ p. Ok p.id)) in subst P is (refl, refl)
+
+pub port_read : (nodes : List (List ℕ)) (m : Members) (port : Port) → port_of nodes m ≡ Ok port → (port_node nodes m ≡ Ok port.node.0) × (port_id m ≡ Ok port.id)
+port_read nodes m port is = port_parts (port_name m) (port_node nodes m) (port_id m) (port_input m) (port_output m) port is
 
 -- a port is at a node of these names
 pub port_placed : (nodes : List (List ℕ)) (m : Members) (port : Port) → port_of nodes m ≡ Ok port → IsAtNode (length nodes) port
-port_placed nodes m port is = known_below nodes (needed name (get_member (codes "node") m)) port.node.0
-    (port_parts (port_name m) (port_node nodes m) (port_id m) (port_input m) (port_output m) port is)
+port_placed nodes m port is = known_below nodes (needed name (get_member (codes "node") m)) port.node.0 (port_read nodes m port is).0
 
 with_way : (a : Result ℕ Why) (c d : Result (Option ℕ) Why) (node : ℕ) (p : Prefix) (link port : Option ℕ) (w : Result Way Why) (route : Route)
     → a ≡ Ok node → c ≡ Ok link → d ≡ Ok port → way_of link port ≡ w → w ▷ (λ way. Ok (record { node = record { 0 = node }; prefix = p; way = way })) ≡ Ok route

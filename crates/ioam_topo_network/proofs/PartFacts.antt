@@ -1,21 +1,23 @@
--- What is true of nodes and of links, from what they read as.
+-- What is true of nodes, links and ports, from what they read as.
 use Rattle.std.proofs.Common.{◌≡◌, ◌<◌, ◌≤◌, ◌^◌, ℕ, Bool, true, false, nat_le, cond, codes, List, [], length, Option, Some, None, Result, Ok, Err, refl, subst, arith}
 use Rattle.std.specs.List.{All}
 use Rattle.std.proofs.lemmas.Bool.Decides.{nat_tests}
 use Rattle.toml.specs.Data.{Data, Members, get_member, string, integer, float, boolean, datetime, array, table}
 use Rattle.ioam_data.specs.declared.namespace.Namespace.{Namespace}
 use Rattle.ioam_topo_values.specs.declared.why.Why.{Why}
-use Rattle.ioam_topo_values.specs.Reads.{◌▷◌, maybe, optional}
-use Rattle.ioam_topo_values.specs.Texts.{file_name}
+use Rattle.ioam_topo_values.specs.Reads.{◌▷◌, optional}
 use Rattle.ioam_topo_values.specs.Entries.{namespaces, are_whole, spaces, apart, at_most}
 use Rattle.ioam_topo.specs.declared.parts.Node.{Node}
 use Rattle.ioam_topo.specs.declared.parts.Link.{Link}
+use Rattle.ioam_topo.specs.declared.parts.Port.{Port}
 use Rattle.ioam_topo_entries.specs.Goods.{goods}
 use Rattle.ioam_topo_network.specs.NodeTable.{node_of, node_name, node_id, node_address, node_spaces}
-use Rattle.ioam_topo_network.specs.LinkTable.{link_of, link_name, link_from, link_to, link_out_id, link_in_id, link_delay, link_mtu}
-use Rattle.ioam_topo.specs.Sound.{IsNode, IsLink}
+use Rattle.ioam_topo_network.specs.LinkTable.{link_of}
+use Rattle.ioam_topo_network.specs.PortTable.{port_of}
+use Rattle.ioam_topo.specs.Sound.{IsNode, IsLink, IsPort}
 use Rattle.ioam_topo_entries.proofs.ReadLaws.{needed_bounds}
 use Rattle.ioam_topo_entries.proofs.GoodsLaws.{goods_all}
+use Rattle.ioam_topo_network.proofs.KeptLaws.{link_read, port_read}
 
 few_in : (most : ℕ) (ss out : List Namespace) (b : Bool) → nat_le (length ss) most ≡ b → cond b (Ok ss) (Err Why.TooMany) ≡ Ok out → length out ≤ most
 few_in most ss out true le is = let same : ss ≡ out = cc in subst (λ l. length l ≤ most) same (grind (arith, nat_tests, le))
@@ -61,29 +63,29 @@ node_facts m node is = node_read (node_name m) (node_id m) (node_address m) (nod
 pub nodes_sound : (ms : List Members) (nodes : List Node) → nodes ≡ goods node_of ms → All IsNode nodes
 nodes_sound ms nodes are = rw are (goods_all IsNode node_of ms node_facts)
 
-link_read : (a : Result (List ℕ) Why) (b c d e f g : Result ℕ Why) (h : Result (Option (List ℕ)) Why) (link : Link)
-    → ((x : ℕ) → f ≡ Ok x → x ≤ 1000000000) → ((x : ℕ) → g ≡ Ok x → (1280 ≤ x) × (x ≤ 65575))
-    → a ▷ (λ name. b ▷ (λ from. c ▷ (λ to. d ▷ (λ out_id. e ▷ (λ in_id. f ▷ (λ delay. g ▷ (λ mtu. h ▷ (λ tap.
-    Ok (record { name = name; from = record { 0 = from }; to = record { 0 = to }; out_id = out_id; in_id = in_id; delay = delay; mtu = mtu; tap = tap }))))))))) ≡ Ok link
-    → IsLink link
-link_read (Err why) b c d e f g h link slow wide is = cc
-link_read (Ok n) (Err why) c d e f g h link slow wide is = cc
-link_read (Ok n) (Ok x) (Err why) d e f g h link slow wide is = cc
-link_read (Ok n) (Ok x) (Ok y) (Err why) e f g h link slow wide is = cc
-link_read (Ok n) (Ok x) (Ok y) (Ok z) (Err why) f g h link slow wide is = cc
-link_read (Ok n) (Ok x) (Ok y) (Ok z) (Ok w) (Err why) g h link slow wide is = cc
-link_read (Ok n) (Ok x) (Ok y) (Ok z) (Ok w) (Ok u) (Err why) h link slow wide is = cc
-link_read (Ok n) (Ok x) (Ok y) (Ok z) (Ok w) (Ok u) (Ok v) (Err why) link slow wide is = cc
-link_read (Ok n) (Ok x) (Ok y) (Ok z) (Ok w) (Ok u) (Ok v) (Ok t) link slow wide is =
-    let same : record { name = n; from = record { 0 = x }; to = record { 0 = y }; out_id = z; in_id = w; delay = u; mtu = v; tap = t } ≡ link = cc in
-    subst IsLink same (record { delay_most = slow u refl; mtu_least = (wide v refl).0; mtu_most = (wide v refl).1 })
-
 link_facts : (nodes : List (List ℕ)) (m : Members) (link : Link) → link_of nodes m ≡ Ok link → IsLink link
-link_facts nodes m link is = link_read (link_name m) (link_from nodes m) (link_to nodes m) (link_out_id m) (link_in_id m) (link_delay m) (link_mtu m)
-    (maybe file_name (get_member (codes "tap") m)) link
-    (λ x read. (needed_bounds 0 1000000000 (get_member (codes "delay") m) x read).1)
-    (λ x read. needed_bounds 1280 65575 (get_member (codes "mtu") m) x read) is
+link_facts nodes m link is =
+    let read = link_read nodes m link is in
+    let out_most = (needed_bounds 0 4294967295 (get_member (codes "out_id") m) link.out_id read.out_id_is).1 in
+    let in_most = (needed_bounds 0 4294967295 (get_member (codes "in_id") m) link.in_id read.in_id_is).1 in
+    let mtu = needed_bounds 1280 65575 (get_member (codes "mtu") m) link.mtu read.mtu_is in
+    record {
+      out_below = omega (arith, out_most);
+      in_below = omega (arith, in_most);
+      delay_most = (needed_bounds 0 1000000000 (get_member (codes "delay") m) link.delay read.delay_is).1;
+      mtu_least = mtu.0;
+      mtu_most = mtu.1;
+    }
 
 -- what is true of the links of entries
 pub links_sound : (nodes : List (List ℕ)) (ms : List Members) (links : List Link) → links ≡ goods (link_of nodes) ms → All IsLink links
 links_sound nodes ms links are = rw are (goods_all IsLink (link_of nodes) ms (link_facts nodes))
+
+port_facts : (nodes : List (List ℕ)) (m : Members) (port : Port) → port_of nodes m ≡ Ok port → IsPort port
+port_facts nodes m port is =
+    let most = (needed_bounds 0 4294967295 (get_member (codes "id") m) port.id (port_read nodes m port is).1).1 in
+    record { id_below = omega (arith, most) }
+
+-- and of ports
+pub ports_sound : (nodes : List (List ℕ)) (ms : List Members) (ports : List Port) → ports ≡ goods (port_of nodes) ms → All IsPort ports
+ports_sound nodes ms ports are = rw are (goods_all IsPort (port_of nodes) ms (port_facts nodes))

@@ -23,7 +23,7 @@ use Rattle.ioam_topo_network.specs.LinkTable.{link_of, link_faults}
 use Rattle.ioam_topo_network.specs.PortTable.{port_of, port_faults}
 use Rattle.ioam_topo_network.specs.RouteRead.{HoldsRoutes, route_behind, faults_behind}
 use Rattle.ioam_topo_network.specs.Places.{node_entries, link_entries, port_entries, route_entries, node_names, part_faults, HoldsParts}
-use Rattle.ioam_topo_network.proofs.PartFacts.{nodes_sound, links_sound}
+use Rattle.ioam_topo_network.proofs.PartFacts.{nodes_sound, links_sound, ports_sound}
 use Rattle.ioam_topo_network.proofs.KeptLaws.{link_joins, port_placed, route_leads, route_prefixed}
 
 module _ (taps : ℕ) (t : Members) (parts : Parts) (holds : HoldsParts taps t parts) (clear : part_faults taps t ≡ []) where
@@ -69,6 +69,7 @@ module _ (taps : ℕ) (t : Members) (parts : Parts) (holds : HoldsParts taps t p
     placed = let all : All (IsAtNode (length (node_names t))) (goods (port_of (node_names t)) (port_entries t)) = goods_all (IsAtNode (length (node_names t))) (port_of (node_names t)) (port_entries t) (port_placed (node_names t)) in
         let P : List Port → Type 0 = All (IsAtNode (length (node_names t))) in let Q : ℕ → Type 0 = λ n. All (IsAtNode n) parts.ports.items.items in
         subst Q node_count (subst P (sym holds.ports.items) all);
+    sound = ports_sound (node_names t) (port_entries t) parts.ports.items.items holds.ports.items;
     few = let f : length (goods (port_of (node_names t)) (port_entries t)) ≤ 64 = few_entries (port_of (node_names t)) PortTable 64 (get_member (codes "port") t) (port_faults (node_names t))
         (back_none link_part port_part (back_none node_part (link_part ++ port_part) clear)) in
         let e : length parts.ports.items.items ≡ length (goods (port_of (node_names t)) (port_entries t)) = ap length holds.ports.items in omega (arith, f, e);

@@ -5,7 +5,7 @@ use Rattle.ioam_topo.specs.declared.parts.Node.{Node}
 use Rattle.ioam_topo.specs.Keyed.{name_of_node, address_of_node, id_of_node, name_of_link, taps_of, name_of_port, key_of_route, key_of_data}
 use Rattle.ioam_topo.specs.Prefixes.{IsPrefix}
 use Rattle.ioam_topo.specs.Known.{IsKnownAtEnds}
-use Rattle.ioam_topo.specs.Sound.{IsNode, IsLink}
+use Rattle.ioam_topo.specs.Sound.{IsNode, IsLink, IsPort}
 use Rattle.ioam_topo.specs.Kept.{JoinsNodes, JoinsEnds, IsAtNode, IsOfNode, IsRouteOf}
 use Rattle.ioam_topo_tables.specs.declared.data_rows.DataRows.{DataRows}
 use Rattle.ioam_topo_tables.specs.declared.flows.Flows.{Flows}
@@ -33,11 +33,12 @@ pub record LinksKept (nodes : ℕ) (links : Links) : Type 0 where
   pub few : length links.items.items ≤ 1024
   pub few_taps : taps_of links.items.items ≤ 64
 
--- the table of ports, of so many nodes: names stand in the ports' order; each port is at one of the nodes, and there are 64
--- at most
+-- the table of ports, of so many nodes: names stand in the ports' order; each port is at one of the nodes and is sound, and
+-- there are 64 at most
 pub record PortsKept (nodes : ℕ) (ports : Ports) : Type 0 where
   pub named : ports.names ≡ map name_of_port ports.items.items
   pub placed : All (IsAtNode nodes) ports.items.items
+  pub sound : All IsPort ports.items.items
   pub few : length ports.items.items ≤ 64
 
 -- the table of routes, over the nodes, links and ports: keys stand in the routes' order; each prefix is one, each way is that
