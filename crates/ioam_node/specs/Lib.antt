@@ -1,3 +1,4 @@
 pub mod Order
+pub mod Outward
 pub mod Choice
 pub mod Admission

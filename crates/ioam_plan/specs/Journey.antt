@@ -2,7 +2,7 @@
 -- and size; a link leads to the next node, its delay later and with the hop limit one less (RFC 8200 section 3), and a port leads out
 -- of the domain. A packet that is enclosed goes by its outer header: the node where it enters its tunnel sends it with the flow's hop
 -- limit, the node where the tunnel ends takes it out, and by that node's ports alone it leaves (RFC 2473 section 3).
-use Rattle.std.specs.Prelude.{◌≡◌, ℕ, ◌+◌, ◌-◌, true, false, nat_eq, if◌then◌else◌, List, [], ◌∷◌, Option, Some, None, option_map, slice_get, Result, Ok, Err}
+use Rattle.std.specs.Prelude.{◌≡◌, ℕ, ◌+◌, ◌-◌, true, false, nat_eq, if◌then◌else◌, List, [], ◌∷◌, Option, Some, None, slice_get, Result, Ok, Err}
 use Rattle.ioam_topo.specs.declared.domain.Domain.{Domain}
 use Rattle.ioam_topo.specs.declared.parts.Link.{Link}
 use Rattle.ioam_topo.specs.declared.ids.NodeId.{NodeId}
@@ -11,10 +11,11 @@ use Rattle.ioam_topo.specs.declared.ids.PortId.{PortId}
 use Rattle.ioam_topo.specs.declared.ids.FlowId.{FlowId}
 use Rattle.ioam_topo.specs.declared.ids.Way.{Way}
 use Rattle.ioam_topo.specs.declared.ids.Way.TheVariants as way
-use Rattle.ioam_topo.specs.Domain.{links, ports}
+use Rattle.ioam_topo.specs.Domain.{links}
 use Rattle.ioam_tunnel.specs.declared.numbers.Numbers.{Numbers}
 use Rattle.ioam_node.specs.declared.reason.Reason.{Reason}
 use Rattle.ioam_node.specs.Choice.{choice, entry_choice, exit_choice}
+use Rattle.ioam_node.specs.Outward.{outward_of}
 use Rattle.ioam_plan.specs.declared.itinerary.Itinerary.{Itinerary}
 use Rattle.ioam_plan.specs.declared.itinerary.Visit.{Visit}
 use Rattle.ioam_plan.specs.declared.itinerary.End.{End}
@@ -26,11 +27,6 @@ use Rattle.ioam_plan.specs.declared.stage.Stage.TheVariants.{Enter, At, Gone, Ou
 use Rattle.ioam_plan.specs.declared.stage.JourneyStep.{JourneyStep}
 use Rattle.ioam_plan.specs.declared.stage.JourneyStep.TheVariants.{Goes, Ends}
 use Rattle.ioam_plan.specs.declared.stage.Trip.{Trip}
-
--- the interface by which a way leaves its node
-abbrev pub outward_of : Domain → Way → Option ℕ
-outward_of domain (way.Link link) = option_map (λ l. l.out_id) (slice_get (links domain) link.0)
-outward_of domain (way.Port port) = option_map (λ p. p.id) (slice_get (ports domain) port.0)
 
 -- none where the packet isn't sent on
 abbrev pub outward_by : Domain → Option Way → Option ℕ

@@ -1,6 +1,7 @@
 //! The stages of a packet's journey.
 ghost use Rattle.std.specs.Prelude.{◌≡◌, ◌+◌, ◌<◌, ◌^◌, Some};
-ghost use Rattle.ioam_plan.specs.Journey.{outward_of, outward_by, crossed, visit_by};
+ghost use Rattle.ioam_node.specs.Outward.{outward_of};
+ghost use Rattle.ioam_plan.specs.Journey.{outward_by, crossed, visit_by};
 
 use crate::itinerary::{End, Visit};
 use ioam_node::Place;

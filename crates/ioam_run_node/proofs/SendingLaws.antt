@@ -9,7 +9,7 @@ use Rattle.ioam_ip.specs.Packet.{IsPacket}
 use Rattle.ioam_node.specs.Choice.{mtu_of, way_by}
 use Rattle.ioam_node.specs.declared.reason.Reason.TheVariants as reason
 use Rattle.ioam_node.specs.declared.place.Place.{Place}
-use Rattle.ioam_plan.specs.Journey.{outward_of}
+use Rattle.ioam_node.specs.Outward.{outward_of}
 use Rattle.ioam_topo.specs.Domain.{routes}
 use Rattle.ioam_topo.specs.Forward.{way_to}
 use Rattle.ioam_topo.specs.declared.domain.Domain.{Domain}

@@ -14,7 +14,7 @@ use Rattle.ioam_node.specs.declared.place.Place.{Place}
 use Rattle.ioam_node.specs.declared.reason.Reason.{Reason}
 use Rattle.ioam_node.specs.declared.reason.Reason.TheVariants as reason
 use Rattle.ioam_pcap.specs.Entries.{Taken}
-use Rattle.ioam_plan.specs.Journey.{outward_of}
+use Rattle.ioam_node.specs.Outward.{outward_of}
 use Rattle.ioam_run_stream.specs.Frame.{taken_framing}
 use Rattle.ioam_topo.specs.Domain.{nodes, links, ports}
 use Rattle.ioam_topo.specs.Forward.{IsWayFrom}

@@ -4,7 +4,7 @@ ghost use Rattle.ioam_ip.specs.Hop.{option_count};
 ghost use Rattle.ioam_desk_outputs.specs.Told.{Adds};
 ghost use Rattle.ioam_pcap.specs.Entries.{most};
 ghost use Rattle.ioam_pcap.specs.Text.{record_octets};
-ghost use Rattle.ioam_plan.specs.Journey.{outward_of};
+ghost use Rattle.ioam_node.specs.Outward.{outward_of};
 ghost use Rattle.ioam_topo.specs.Domain.{links, ports};
 ghost use Rattle.ioam_topo.specs.Forward.{IsWayFrom};
 ghost use Rattle.ioam_run_node.specs.NodeText.{added_of, out_lines, way_name};

@@ -9,7 +9,7 @@ use Rattle.ioam_topo.specs.declared.ids.PortId.{PortId}
 use Rattle.ioam_topo.specs.declared.ids.Way.{Way}
 use Rattle.ioam_topo.specs.declared.ids.Way.TheVariants as way
 use Rattle.ioam_topo.specs.Domain.{links, ports}
-use Rattle.ioam_plan.specs.Journey.{outward_of}
+use Rattle.ioam_node.specs.Outward.{outward_of}
 use Rattle.ioam_plan.proofs.stage.outward_of.Goals as goal
 
 link_out : (domain : Domain) (w : Way) (link : LinkId) (ls : List Link) (l : Link) → w ≡ way.Link link → ls ≡ links domain
