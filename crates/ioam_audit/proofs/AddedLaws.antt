@@ -5,8 +5,7 @@ use Rattle.ioam_data.specs.Elements.{IsElement}
 use Rattle.ioam_data.specs.Fields.{fields_of}
 use Rattle.ioam_trace.specs.Filling.{with_lengths}
 use Rattle.ioam_trace.specs.Head.{node_len_of, remaining_of, kind_of}
-use Rattle.ioam_audit.specs.Becomes.{with_element}
-use Rattle.ioam_audit.specs.Decided.{AddsSo, between}
+use Rattle.ioam_audit.specs.Decided.{AddsSo, between, with_element}
 use Rattle.ioam_audit.specs.Lawful.{IsLawful}
 
 module _ (hops id inward : ℕ) (old new : List ℕ) (before after : ℕ) (before_is : before ≡ remaining_of old) (after_is : after ≡ remaining_of new)

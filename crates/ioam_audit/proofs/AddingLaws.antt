@@ -5,8 +5,7 @@ use Rattle.ioam_base.specs.Octets.{IsOctets, u16_at, written}
 use Rattle.ioam_base.specs.Words.{two_octets}
 use Rattle.ioam_trace.specs.Head.{remaining_of}
 use Rattle.ioam_trace.specs.Filling.{less_remaining}
-use Rattle.ioam_audit.specs.Becomes.{with_element}
-use Rattle.ioam_audit.specs.Decided.{between}
+use Rattle.ioam_audit.specs.Decided.{between, with_element}
 use Rattle.ioam_base.proofs.WrittenLaws.{length-written, written-part, written-front}
 
 pub number_written : (old : List ℕ) (n : ℕ) → n < 65536 → 4 ≤ length old → u16_at (written old 2 (two_octets n)) 2 ≡ n

@@ -11,16 +11,16 @@ use Rattle.ioam_data.specs.View.{Seen}
 use Rattle.ioam_data.specs.Written.{element_of, or_ones, narrow_face, narrow_id, delay_of}
 use Rattle.ioam_data.proofs.FieldLaws.{narrow_id_below, narrow_face_below}
 use Rattle.ioam_data.proofs.TableLaws.{kept_by}
-use Rattle.ioam_audit.specs.Free.{IsFree, with_check}
+use Rattle.ioam_audit.specs.Free.{IsFree}
 use Rattle.ioam_audit.specs.Lawful.{ComesBy, IsLawful}
-use Rattle.ioam_audit.proofs.CheckLaws.{checked_by, fields_of-with_check, ones}
+use Rattle.ioam_audit.proofs.CheckLaws.{checked, checked_by, fields_of-checked, ones}
 
 -- these octets are the element of some free view, but for the checksum complement
 pub record MayAdd (kind node_len hops id inward : ℕ) (octets : List ℕ) : Type 0 where
   pub view : Seen
   pub check : ℕ
   pub free : IsFree hops id inward view
-  pub is : octets ≡ with_check kind (element_of kind node_len view) check
+  pub is : octets ≡ checked kind (element_of kind node_len view) check
 
 -- ---- a field that is there
 
@@ -114,5 +114,5 @@ module _ (kind node_len hops id inward : ℕ) (hops_below : hops < 256) (id_belo
 pub lawful : (kind node_len hops id inward : ℕ) (octets : List ℕ) → hops < 256 → id < 72057594037927936 → inward < 4294967296
     → MayAdd kind node_len hops id inward octets → IsLawful hops id inward (fields_of kind node_len octets)
 lawful kind node_len hops id inward octets hops_below id_below inward_below may =
-    subst (IsLawful hops id inward) (sym (fields_of-with_check kind node_len may.view may.check octets may.is))
+    subst (IsLawful hops id inward) (sym (fields_of-checked kind node_len may.view may.check octets may.is))
     (read-lawful kind node_len hops id inward hops_below id_below inward_below may.view may.check may.free (fields_of kind node_len octets).snapshot)

@@ -1,13 +1,9 @@
-mod HopFitsLaws
 pub mod AddedLaws
 pub mod AddingLaws
-pub mod ChangesLaws
-pub mod ChangingLaws
 pub mod CheckLaws
 pub mod DataLaws
 pub mod LawfulLaws
 pub mod LeftLaws
-pub mod MatchLaws
 pub mod NoneLaws
 pub mod PartsLaws
 pub mod SentLaws

@@ -7,8 +7,8 @@ use Rattle.ioam_data.specs.Kind.{has, words}
 use Rattle.ioam_data.specs.View.{Seen}
 use Rattle.ioam_data.specs.Elements.{size_at, IsElement}
 use Rattle.ioam_data.specs.Written.{part, snapshot_of, element_of, element_words}
-use Rattle.ioam_audit.specs.Free.{IsAnySnapshot, with_check}
-use Rattle.ioam_audit.proofs.CheckLaws.{checked_fields, checked_fields-long, ones, with_check-rows}
+use Rattle.ioam_audit.specs.Free.{IsAnySnapshot}
+use Rattle.ioam_audit.proofs.CheckLaws.{checked, checked_fields, checked_fields-long, ones, checked-rows}
 
 -- a snapshot as it is written: its first octet counts the words after its first word
 snapshot_first : (given : Option (ℕ × List ℕ)) → IfSome given (λ s. IsAnySnapshot s.0 s.1) → length (snapshot_of given) ≡ 4 + 4 * get_or (snapshot_of given) 0 0
@@ -22,8 +22,8 @@ module _ (kind node_len : ℕ) (view : Seen) (check : ℕ) (snapshot : IfSome vi
   abbrev before : List ℕ
   before = checked_fields kind node_len view check ++ ones kind node_len view check
 
-  in_two : with_check kind (element_of kind node_len view) check ≡ before ++ part kind 22 (snapshot_of view.snapshot)
-  in_two = with_check-rows kind node_len view check
+  in_two : checked kind (element_of kind node_len view) check ≡ before ++ part kind 22 (snapshot_of view.snapshot)
+  in_two = checked-rows kind node_len view check
       ∙ sym (append_assoc (checked_fields kind node_len view check) (ones kind node_len view check) (part kind 22 (snapshot_of view.snapshot)))
 
   before_long : length before ≡ 4 * node_len
@@ -41,12 +41,12 @@ module _ (kind node_len : ℕ) (view : Seen) (check : ℕ) (snapshot : IfSome vi
       )
   sized false = (omega (arith, before_long, length-append before ([])), omega (arith, before_long, length-append before ([])))
 
-  pub long : length (with_check kind (element_of kind node_len view) check) ≡ 4 * element_words kind node_len view
+  pub long : length (checked kind (element_of kind node_len view) check) ≡ 4 * element_words kind node_len view
   long = ap length in_two ∙ (sized (has kind 22)).1
 
   -- it is one element, whole, where it isn't empty
-  pub one : 0 < element_words kind node_len view → IsElement kind node_len (with_check kind (element_of kind node_len view) check)
+  pub one : 0 < element_words kind node_len view → IsElement kind node_len (checked kind (element_of kind node_len view) check)
   one some =
-      let whole : size_at kind node_len (with_check kind (element_of kind node_len view) check) 0 ≡ length (with_check kind (element_of kind node_len view) check) =
+      let whole : size_at kind node_len (checked kind (element_of kind node_len view) check) 0 ≡ length (checked kind (element_of kind node_len view) check) =
       ap (λ xs. size_at kind node_len xs 0) in_two ∙ (sized (has kind 22)).0 ∙ sym (ap length in_two) in
       record { stands = record { room = room; filled = omega (arith, whole, long, some); inside = omega (arith, whole) }; whole = whole }

@@ -17,7 +17,7 @@ use Rattle.ioam_data.proofs.TableLaws.{drop-rest_by}
 use Rattle.ioam_data.proofs.WholeLaws.{fields_of-whole, numbers_of-named}
 use Rattle.ioam_audit.specs.Free.{IsAnySnapshot, IsFree}
 use Rattle.ioam_audit.specs.Lawful.{ComesBy, IsLawful}
-use Rattle.ioam_audit.proofs.CheckLaws.{checked_by, with_check-rows}
+use Rattle.ioam_audit.proofs.CheckLaws.{checked_by, checked-rows}
 use Rattle.ioam_audit.proofs.LawfulLaws.{MayAdd}
 
 -- what is written of rows is spelt by the numbers that they show
@@ -210,5 +210,5 @@ module _ (kind node_len hops id inward : ℕ) (octets : List ℕ) (small : IsOct
         check = v 7;
         free = free;
         is = fields_of-whole kind node_len octets small element ∙ (λ i. rows i ++ (full i ++ last_same (has kind 22) i))
-            ∙ sym (with_check-rows kind node_len view (v 7));
+            ∙ sym (checked-rows kind node_len view (v 7));
       }

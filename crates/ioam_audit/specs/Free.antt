@@ -1,10 +1,6 @@
 -- What may be in the element that a node adds to a trace (RFC 9197 section 4.4.2), where all that is known of the node is
 -- its id, the hop limit with which it sends the packet on and the interface by which the packet came.
-use Rattle.std.specs.Prelude.{◌≡◌, ◌<◌, ◌≤◌, ◌*◌, ◌%◌, ◌⊎◌, ℕ, if◌then◌else◌, List, length, Some, None, IfSome}
-use Rattle.ioam_base.specs.Octets.{written}
-use Rattle.ioam_base.specs.Words.{four_octets}
-use Rattle.ioam_data.specs.Kind.{has}
-use Rattle.ioam_data.specs.Table.{rows, words_by}
+use Rattle.std.specs.Prelude.{◌≡◌, ◌<◌, ◌≤◌, ◌%◌, ◌⊎◌, ℕ, List, length, Some, None, IfSome}
 use Rattle.ioam_data.specs.View.{Seen}
 
 -- an opaque state snapshot (section 4.4.2.13): a schema of 24 bits, and whole words of data, as many as Length, of 8
@@ -23,11 +19,3 @@ pub record IsFree (hops id inward : ℕ) (view : Seen) : Type 0 where
   pub inward_is : (view.inward ≡ Some inward) ⊎ (view.inward ≡ None)
   pub outward_below : IfSome view.outward (λ number. number < 4294967296)
   pub snapshot_fits : IfSome view.snapshot (λ given. IsAnySnapshot given.0 given.1)
-
--- the words of the fields of bits 0 to 6, before the checksum complement
-abbrev pub words_before : ℕ → ℕ
-words_before kind = words_by (rows 0 7) kind
-
--- an element with this checksum complement (section 4.4.2.8, bit 7), where the type has it
-abbrev pub with_check : ℕ → List ℕ → ℕ → List ℕ
-with_check kind element check = if has kind 7 then written element (4 * words_before kind) (four_octets check) else element

@@ -1,5 +1,4 @@
 pub mod Becomes
-pub mod Changed
 pub mod Decided
 pub mod Free
 pub mod Header

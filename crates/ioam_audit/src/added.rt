@@ -4,9 +4,9 @@ ghost use Rattle.ioam_base.specs.Octets.{u16_at, written};
 ghost use Rattle.ioam_data.specs.Elements.{IsElement};
 ghost use Rattle.ioam_data.specs.Fields.{fields_of};
 ghost use Rattle.ioam_data.specs.Kind.{has, undefined};
-ghost use Rattle.ioam_trace.specs.Filling.{IsOpen, with_lengths};
+ghost use Rattle.ioam_trace.specs.Filling.{IsOpen, with_lengths, IsSuitedBy};
 ghost use Rattle.ioam_trace.specs.Head.{kind_of, node_len_of, remaining_of};
-ghost use Rattle.ioam_audit.specs.Becomes.{IsFit};
+ghost use Rattle.ioam_audit.specs.Becomes.{may_add};
 ghost use Rattle.ioam_audit.specs.Decided.{AddsSo, OverflowsSo};
 ghost use Rattle.ioam_audit.specs.Lawful.{IsLawful};
 
@@ -51,7 +51,7 @@ fn is_between(sight: Sight, old: &[u8], new: &[u8], before: u8, after: u8) -> bo
 pub(crate) fn is_added(sight: Sight, old: &[u8], new: &[u8]) -> bool
     requires same { length new.now ≡ length old.now }
     requires is_open { IsOpen old.now }
-    requires fit { IsFit old.now }
+    requires fit { IsSuitedBy may_add old.now }
     ensures { IsTrue result ↔ AddsSo sight.hops sight.id sight.inward old.now new.now }
 {
     let before = Lengths::read(old).remaining();

@@ -1,9 +1,9 @@
 //! Whether the octets of a trace are what a node may have left of them (RFC 9197 section 4.4.1).
 ghost use Rattle.std.specs.Prelude.{◌≡◌, ◌<◌, ◌⊎◌, ◌↔◌, IsTrue, length};
 ghost use Rattle.ioam_data.specs.Kind.{undefined};
-ghost use Rattle.ioam_trace.specs.Filling.{IsOpen};
+ghost use Rattle.ioam_trace.specs.Filling.{IsOpen, IsSuitedBy};
 ghost use Rattle.ioam_trace.specs.Head.{kind_of};
-ghost use Rattle.ioam_audit.specs.Becomes.{IsFit, MayBecome};
+ghost use Rattle.ioam_audit.specs.Becomes.{MayBecome, may_add};
 ghost use Rattle.ioam_audit.specs.Decided.{AddsSo, OverflowsSo};
 
 use crate::added::{is_added, is_overflow, is_refused};
@@ -15,7 +15,7 @@ use crate::sight::Sight;
 fn is_changed(sight: Sight, old: &[u8], new: &[u8]) -> bool
     requires same { length new.now ≡ length old.now }
     requires is_open { IsOpen old.now }
-    requires fit { IsFit old.now }
+    requires fit { IsSuitedBy may_add old.now }
     ensures { IsTrue result ↔ (((0 < undefined (kind_of old.now)) × (new.now ≡ old.now))
         ⊎ (AddsSo sight.hops sight.id sight.inward old.now new.now ⊎ OverflowsSo old.now new.now)) }
 {

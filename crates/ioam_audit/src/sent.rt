@@ -1,14 +1,15 @@
 //! Whether a node may have sent a packet on as another.
-ghost use Rattle.std.specs.Prelude.{◌≡◌, ◌<◌, ◌≤◌, ◌-◌, ◌↔◌, ℕ, List, IsTrue, IfSome, drop, length, slice_index, slice_range, slice_get};
+ghost use Rattle.std.specs.Prelude.{◌≡◌, ◌<◌, ◌≤◌, ◌-◌, ◌↔◌, ℕ, List, IsTrue, IfSome, length, slice_index, slice_get};
 ghost use Rattle.ioam_clock.specs.declared.sample.Sample.{Sample};
 ghost use Rattle.ioam_ip.specs.Chain.{IsSound};
+ghost use Rattle.ioam_ip.specs.Hop.{hop_options};
 ghost use Rattle.ioam_ip.specs.Packet.{IsPacket};
 ghost use Rattle.ioam_node.specs.declared.place.Place.{Place};
 ghost use Rattle.ioam_node_visit.specs.Seeing.{id_of};
 ghost use Rattle.ioam_node_visit.specs.Stepped.{Stepped};
 ghost use Rattle.ioam_topo.specs.Domain.{links, nodes};
-ghost use Rattle.ioam_audit.specs.Header.{IsLeftBehind, IsLowered};
-ghost use Rattle.ioam_audit.specs.Sent.{IsLeft, IsSentAs, end_of};
+ghost use Rattle.ioam_audit.specs.Header.{AreLeft, IsLowered};
+ghost use Rattle.ioam_audit.specs.Sent.{IsSentAs, end_of};
 
 use crate::options::agree;
 use crate::parts::is_same;
@@ -31,40 +32,15 @@ fn is_lowered(before: &[u8], after: &[u8]) -> bool
         )
 }
 
-// Whether the options header up to a place is as the node may have left it, and all behind it as it was.
-fn is_left_to(
-    domain: &Domain,
-    node: NodeId,
-    sight: Sight,
-    before: &[u8],
-    after: &[u8],
-    end: usize,
-) -> bool
-    requires order { 40 ≤ end }
-    requires within { end ≤ length before.now }
-    requires same { length after.now ≡ length before.now }
-    ensures { IsTrue result ↔ ((drop end after.now ≡ drop end before.now)
-        × IsLeft domain.now node.0 sight.hops sight.id sight.inward (slice_range before.now 40 end) (slice_range after.now 40 end)) }
-{
-    is_same(&after[end..], &before[end..])
-        && agree(
-            domain,
-            node,
-            sight,
-            &before[HEADER_OCTETS..end],
-            &after[HEADER_OCTETS..end],
-        )
-}
-
-// Whether all behind the IPv6 header is as the node may have left it.
+// Whether all that follows the IPv6 header is as the node may have left it.
 fn is_left(domain: &Domain, node: NodeId, sight: Sight, before: &[u8], after: &[u8]) -> bool
     requires packet { IsPacket before.now }
     requires sound { IsSound before.now }
     requires same { length after.now ≡ length before.now }
-    ensures { IsTrue result ↔ IsLeftBehind domain.now node.0 sight.hops sight.id sight.inward before.now after.now }
+    ensures { IsTrue result ↔ AreLeft domain.now node.0 sight.hops sight.id sight.inward before.now after.now 40 (hop_options before.now) }
 {
     match hop_header(before) {
-        Some(hop) => is_left_to(domain, node, sight, before, after, hop.end),
+        Some(hop) => agree(domain, node, sight, before, after, hop.end),
         None => is_same(&after[HEADER_OCTETS..], &before[HEADER_OCTETS..]),
     }
 }
@@ -74,7 +50,7 @@ fn is_sent(domain: &Domain, node: NodeId, sight: Sight, before: &[u8], after: &[
     requires packet { IsPacket before.now }
     requires sound { IsSound before.now }
     ensures { IsTrue result ↔ ((length after.now ≡ length before.now) × IsLowered before.now after.now
-        × IsLeftBehind domain.now node.0 sight.hops sight.id sight.inward before.now after.now) }
+        × AreLeft domain.now node.0 sight.hops sight.id sight.inward before.now after.now 40 (hop_options before.now)) }
 {
     after.len() == before.len()
         && is_lowered(before, after)

@@ -1,14 +1,14 @@
-use Rattle.std.proofs.Common.{◌≡◌, true, false, sym, ◌∙◌}
-use Rattle.ioam_audit.specs.Sent.{is_changing}
-use Rattle.ioam_audit.proofs.MatchLaws.{to_first, of_first, to_second, of_second}
 use Rattle.ioam_audit.proofs.left.may_leave.Goals as goal
 
-pub returns-then-not-is_changing : goal.returns-then-not-is_changing
-returns-then-not-is_changing c =
-    let no : is_changing c.args.domain.now c.args.node.0 c.args.kind c.args.old.now ≡ false = sym c.is_changing.ensures.value ∙ c.if-not-is_changing.true in
-    (λ is. to_second _ _ _ no (c.is_same.ensures.0 is), λ left. c.is_same.ensures.1 (of_second _ _ _ no left))
+pub returns-then-not-is_filled : goal.returns-then-not-is_filled
+returns-then-not-is_filled c = (
+  λ is. record { stays = λ never. c.is_same.ensures.0 is; trace = λ fills. absurd (cc (c.if-not-is_filled.true, c.is_filled.ensures.fills.1 fills)) },
+  λ may. c.is_same.ensures.1 (may.stays (λ fills. absurd (cc (c.if-not-is_filled.true, c.is_filled.ensures.fills.1 fills)))),
+)
 
 pub returns : goal.returns
 returns c =
-    let yes : is_changing c.args.domain.now c.args.node.0 c.args.kind c.args.old.now ≡ true = sym c.is_changing.ensures.value ∙ c.if-not-is_changing.false in
-    (λ is. to_first _ _ _ yes (c.is_trace_left.ensures.0 is), λ left. c.is_trace_left.ensures.1 (of_first _ _ _ yes left))
+    let fills = c.is_filled.ensures.fills.0 c.if-not-is_filled.false in (
+      λ is. record { stays = λ never. absurd (never fills); trace = λ again. c.is_trace_left.ensures.0 is },
+      λ may. c.is_trace_left.ensures.1 (may.trace fills),
+    )
