@@ -4,6 +4,7 @@ pub mod NumbersLaws
 pub mod ReaderLaws
 pub mod ReadsLaws
 pub mod RecordLaws
+pub mod RefLaws
 pub mod RoomLaws
 pub mod TotalLaws
 pub mod VisitLaws

@@ -116,7 +116,7 @@ behind_numbers (Some m) None true false tail a b = refl
 behind_numbers (Some m) (Some n) true true tail a b = refl
 behind_numbers (Some m) (Some n) true false tail a b = absurd (cc)
 
-behind_visit : (visit : Option (ℕ × ℕ)) (tail : List ℕ) → drop (twelve_where (has_visit (version_of visit))) (visit_octets visit ++ tail) ≡ tail
+pub behind_visit : (visit : Option (ℕ × ℕ)) (tail : List ℕ) → drop (twelve_where (has_visit (version_of visit))) (visit_octets visit ++ tail) ≡ tail
 behind_visit None tail = refl
 behind_visit (Some (time, inward)) tail = refl
 

@@ -5,6 +5,7 @@ pub mod Reader
 pub mod Reading
 pub mod Reads
 pub mod Record
+pub mod RecordRef
 pub mod Room
 pub mod Showing
 pub mod Visit

@@ -9,16 +9,16 @@ use Rattle.ioam_dex.specs.Record.{Record, Rec}
 use Rattle.ioam_dex.specs.Faults.{Fault}
 use Rattle.ioam_dex.specs.Reads.{Faulty, Reads, ReadsOnly}
 use Rattle.ioam_dex.specs.Reading.{Reading}
-use Rattle.ioam_dex.specs.Reader.{Stands, Waits}
+use Rattle.ioam_dex.specs.Reader.{Stands, Waits, held}
 
 -- a record more was given
 abbrev pub Gives : Reading → Reading → Record → Type 0
 Gives old new x = (octets : List ℕ) (records : List Record) → Stands old octets records → Stands new octets (records ++ x ∷ [])
 
--- what a step finds in front of the pending octets, and what it takes off
+-- what a step finds in front of the pending octets, and what it takes off; the reader keeps as many octets as before
 abbrev pub Finds : Reading → Reading → Shown → Type 0
 Finds old new (shown.Record octets) = ((x : Record) × Rec octets.now x × Gives old new x)
-    × (old.pending ≡ octets.now ++ new.pending) × (new.start ≡ old.start + length octets.now)
+    × (old.pending ≡ octets.now ++ new.pending) × (new.start ≡ old.start + length octets.now) × (held new ≡ held old)
 Finds old new shown.More = (new ≡ old) × Waits old
 Finds old new (shown.Bad at fault) = (new ≡ old) × (at ≡ old.start) × Fault old.pending fault
     × ((octets : List ℕ) (records : List Record) → Stands old octets records

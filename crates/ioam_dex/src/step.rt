@@ -67,7 +67,7 @@ fn size_step(octets: &[u8]) -> Sizing
 }
 
 // The head of a record whose front is there.
-fn head(octets: &[u8], front: usize, size: usize) -> RecordHead
+pub(crate) fn head(octets: &[u8], front: usize, size: usize) -> RecordHead
     requires fits { front_of octets.now ≤ length octets.now }
     ensures says { said result (element_of octets.now) ≡ record_at octets.now }
     ensures front { result.front ≡ front }

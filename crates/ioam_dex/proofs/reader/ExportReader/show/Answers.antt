@@ -1,9 +1,9 @@
 use Rattle.std.proofs.Common.{◌≡◌, ◌+◌, ◌++◌, List, ℕ, length, refl, sym, ap, ◌∙◌, subst}
 use Rattle.ioam_dex.specs.declared.head.RecordStep.TheVariants as step
-use Rattle.ioam_dex.specs.Record.{Record, IsRecord, record_octets, element_of}
+use Rattle.ioam_dex.specs.Record.{Record, record_octets, element_of}
 use Rattle.ioam_dex.specs.Faults.{Fault, IsCut, TellsRecord, said}
 use Rattle.ioam_dex.specs.Reading.{Reading}
-use Rattle.ioam_dex.proofs.ReaderLaws.{octets_off, whole_off, Stands-step, Stands-faulty}
+use Rattle.ioam_dex.proofs.ReaderLaws.{held_kept, octets_off, whole_off, Stands-step, Stands-faulty}
 use Rattle.ioam_dex.proofs.reader.ExportReader.show.Goals as goal
 
 pub returns-in-Whole : goal.returns-in-Whole
@@ -25,6 +25,7 @@ returns-in-Whole c =
           (x, record { sayable = told.2; is = are }, (λ octets records stands. Stands-step old new x told.2 off.0 off.1 octets records stands)),
           off.0 ∙ ap (λ o. o ++ new.pending) (sym are),
           off.1 ∙ ap (λ o. old.start + length o) (sym are),
+          held_kept held c.take.new.self h old c.self.view_is c.take.ensures told,
         ),
       ),
       tt,
