@@ -1,13 +1,13 @@
--- The reasons that hold of a packet whose chain is whole and has no IOAM option.
-use Rattle.std.proofs.Common.{◌≡◌, ℕ, ◌<◌, ◌≤◌, List, true, false, Option, Some, sym, ◌∙◌, ap, arith}
+-- The first stop of a packet whose chain is whole and has no IOAM option.
+use Rattle.std.proofs.Common.{◌≡◌, ℕ, ◌≤◌, List, true, false, IsTrue, Option, Some, inl, inr, refl, sym, ◌∙◌, ap}
 use Rattle.ioam_ip.specs.Framing.{Framing, Holds, NoIpv6, CutShort, TooShort}
 use Rattle.ioam_ip.specs.Header.{HasFields}
 use Rattle.ioam_ip.specs.declared.packet.Header.{Header}
 use Rattle.ioam_topo.specs.declared.domain.Domain.{Domain}
 use Rattle.ioam_topo.specs.declared.ids.FlowId.{FlowId}
 use Rattle.ioam_topo.specs.Domain.{is_local}
-use Rattle.ioam_node.specs.Admission.{Admits, Refuses, IsFree, CanEnter, flow_for, reason_of}
-use Rattle.ioam_node.specs.Order.{IsFirst, rank}
+use Rattle.ioam_node.specs.Admission.{Admits, refusals, IsFree, CanEnter, flow_for, reason_of}
+use Rattle.ioam_node.specs.Order.{IsFirst}
 use Rattle.ioam_node.specs.declared.answer.Admit.TheVariants as admit
 use Rattle.ioam_node.specs.declared.reason.Reason.{Reason}
 use Rattle.ioam_node.specs.declared.reason.Reason.TheVariants as reason
@@ -19,43 +19,19 @@ Admits-drop domain node NoIpv6 why is = cc is
 Admits-drop domain node CutShort why is = cc is
 Admits-drop domain node TooShort why is = cc is
 
-same_target : (packet : List ℕ) (a b : Header) → HasFields packet a → HasFields packet b → a.target ≡ b.target
-same_target packet a b first second = first.target ∙ sym second.target
-
 module _ (domain : Domain) (packet : List ℕ) (header : Header) (is_free : IsFree packet header) where
-  pub first_local : is_local domain header.target ≡ true → IsFirst (Refuses domain packet) reason.Local
-  first_local here = ((header, is_free.fields, here), none)
-    where
-      none : (other : Reason) → rank other < 6 → Refuses domain packet other → ⊥
-      none reason.NotIpv6 before holds = holds
-      none reason.Cut before holds = holds
-      none reason.Length before holds = holds
-      none reason.Chain before holds = holds is_free.sound
-      none reason.IoamIn before holds = is_free.free holds
-      none reason.Local before holds = omega (arith, before)
-      none reason.HopLimit before holds = omega (arith, before)
-      none reason.NoRoute before holds = holds
-      none reason.EncapLimit before holds = holds
-      none reason.TooBig before holds = holds
-      none reason.IoamOut before holds = holds
+  pub first_local : is_local domain header.target ≡ true → IsFirst (refusals domain packet) reason.Local
+  first_local here = inr ((λ bad. bad is_free.sound), inr (is_free.free, inl ((header, is_free.fields, here), refl)))
 
-  pub first_hop_limit : is_local domain header.target ≡ false → header.hops ≤ 1 → IsFirst (Refuses domain packet) reason.HopLimit
-  first_hop_limit foreign low = ((header, is_free.fields, low), none)
-    where
-      none : (other : Reason) → rank other < 7 → Refuses domain packet other → ⊥
-      none reason.NotIpv6 before holds = holds
-      none reason.Cut before holds = holds
-      none reason.Length before holds = holds
-      none reason.Chain before holds = holds is_free.sound
-      none reason.IoamIn before holds = is_free.free holds
-      none reason.Local before holds =
-          let here : is_local domain header.target ≡ true = ap (is_local domain) (same_target packet header holds.0 is_free.fields holds.1) ∙ holds.2 in
-          let differs : false ≡ true = sym foreign ∙ here in cc
-      none reason.HopLimit before holds = omega (arith, before)
-      none reason.NoRoute before holds = holds
-      none reason.EncapLimit before holds = holds
-      none reason.TooBig before holds = holds
-      none reason.IoamOut before holds = holds
+  -- no other header of the packet has a target of the domain
+  pub not_local : is_local domain header.target ≡ false → (h : Header) × HasFields packet h × IsTrue (is_local domain h.target) → ⊥
+  not_local foreign own =
+      let targets : header.target ≡ own.0.target = is_free.fields.target ∙ sym own.1.target in
+      let differs : false ≡ true = sym foreign ∙ ap (is_local domain) targets ∙ own.2 in cc
+
+  pub first_hop_limit : is_local domain header.target ≡ false → header.hops ≤ 1 → IsFirst (refusals domain packet) reason.HopLimit
+  first_hop_limit foreign low =
+      inr ((λ bad. bad is_free.sound), inr (is_free.free, inr (not_local foreign, inl ((header, is_free.fields, low), refl))))
 
   -- the packet is taken in, and this is its flow, if it has one
   pub enters : (node : ℕ) (flow : Option FlowId) → is_local domain header.target ≡ false → 2 ≤ header.hops → flow_for domain node header ≡ flow

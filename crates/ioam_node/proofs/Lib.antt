@@ -1,2 +1,4 @@
+pub mod OrderLaws
+pub mod ChoiceLaws
 mod AdmissionLaws
 pub mod OneAnswerLaws

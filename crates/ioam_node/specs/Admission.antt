@@ -1,6 +1,6 @@
 -- What becomes of a frame at the port where it arrives: the first reason why it is dropped, or its
 -- packet, which is enclosed in the flow that it matches, or sent on as it is.
-use Rattle.std.specs.Prelude.{◌≡◌, ◌<◌, ◌≤◌, ⊤, ℕ, false, IsTrue, List, [], length, Option, Some, None}
+use Rattle.std.specs.Prelude.{◌≡◌, ◌<◌, ◌≤◌, ⊤, ℕ, false, IsTrue, List, [], ◌∷◌, length, Option, Some, None}
 use Rattle.ioam_ip.specs.Chain.{IsSound}
 use Rattle.ioam_ip.specs.ChainOptions.{CarriesIoam, LimitOf}
 use Rattle.ioam_ip.specs.Framing.{Framing, Holds, NoIpv6, CutShort, TooShort}
@@ -11,7 +11,7 @@ use Rattle.ioam_topo.specs.declared.domain.Domain.{Domain}
 use Rattle.ioam_topo.specs.declared.ids.FlowId.{FlowId}
 use Rattle.ioam_topo.specs.Domain.{flows, is_local}
 use Rattle.ioam_topo.specs.Finding.{flow_at}
-use Rattle.ioam_node.specs.Order.{IsFirst}
+use Rattle.ioam_node.specs.Order.{Stop, stop, IsFirst}
 use Rattle.ioam_node.specs.declared.answer.Admit.{Admit}
 use Rattle.ioam_node.specs.declared.answer.Admit.TheVariants as admit
 use Rattle.ioam_node.specs.declared.reason.Reason.{Reason}
@@ -33,25 +33,18 @@ pub record CanEnter (domain : Domain) (packet : List ℕ) (header : Header) : Ty
   pub target : is_local domain header.target ≡ false
   pub hops : 2 ≤ header.hops
 
-module _ (domain : Domain) (packet : List ℕ) where
-  -- a reason holds of a packet that arrives. The first three are those of a frame that holds none;
-  -- NoRoute, TooBig and IoamOut are found where its way is chosen, EncapLimit where it is to be enclosed
-  abbrev pub Refuses : Reason → Type 0
-  Refuses reason.Chain = IsSound packet → ⊥
-  Refuses reason.IoamIn = CarriesIoam packet
-  Refuses reason.Local = (header : Header) × HasFields packet header × IsTrue (is_local domain header.target)
-  Refuses reason.HopLimit = (header : Header) × HasFields packet header × (header.hops ≤ 1)
-  Refuses reason.NotIpv6 = ⊥
-  Refuses reason.Cut = ⊥
-  Refuses reason.Length = ⊥
-  Refuses reason.NoRoute = ⊥
-  Refuses reason.EncapLimit = ⊥
-  Refuses reason.TooBig = ⊥
-  Refuses reason.IoamOut = ⊥
+-- why a packet that arrives may be dropped, in the order in which a node looks for it
+abbrev pub refusals : Domain → List ℕ → List Stop
+refusals domain packet =
+    stop reason.Chain (IsSound packet → ⊥)
+    ∷ stop reason.IoamIn (CarriesIoam packet)
+    ∷ stop reason.Local ((header : Header) × HasFields packet header × IsTrue (is_local domain header.target))
+    ∷ stop reason.HopLimit ((header : Header) × HasFields packet header × (header.hops ≤ 1))
+    ∷ []
 
 -- what becomes of a packet at a port of this node
 abbrev pub AdmitsPacket : Domain → ℕ → List ℕ → Admit → Type 0
-AdmitsPacket domain node packet (admit.Drop reason) = IsFirst (Refuses domain packet) reason
+AdmitsPacket domain node packet (admit.Drop reason) = IsFirst (refusals domain packet) reason
 AdmitsPacket domain node packet (admit.Plain kept) = (kept.now ≡ packet)
     × ((header : Header) × CanEnter domain packet header × (flow_for domain node header ≡ None))
 AdmitsPacket domain node packet (admit.Enclose flow kept limit) = (kept.now ≡ packet) × LimitOf packet limit

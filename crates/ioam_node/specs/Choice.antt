@@ -1,5 +1,5 @@
 -- Where a node that isn't the packet's exit sends it, or why it drops it.
-use Rattle.std.specs.Prelude.{◌≡◌, ⊤, ◌<◌, ◌≤◌, ℕ, Bool, IsTrue, nat_lt, nat_le, Option, Some, None, Result, Ok, Err, slice_get, if◌then◌else◌}
+use Rattle.std.specs.Prelude.{◌≡◌, ⊤, ◌<◌, ◌≤◌, ℕ, Bool, IsTrue, nat_lt, nat_le, Option, Some, None, Result, Ok, Err, List, [], ◌∷◌, slice_get, if◌then◌else◌}
 use Rattle.std.specs.Option.{option_map_or}
 use Rattle.ioam_topo.specs.declared.domain.Domain.{Domain}
 use Rattle.ioam_topo.specs.declared.ids.Way.{Way}
@@ -8,6 +8,7 @@ use Rattle.ioam_topo.specs.declared.ids.LinkId.{LinkId}
 use Rattle.ioam_topo.specs.declared.ids.PortId.{PortId}
 use Rattle.ioam_topo.specs.Domain.{links, routes}
 use Rattle.ioam_topo.specs.Forward.{way_to}
+use Rattle.ioam_node.specs.Order.{Stop, stop, NoneHolds}
 use Rattle.ioam_node.specs.declared.reason.Reason.{Reason}
 use Rattle.ioam_node.specs.declared.reason.Reason.TheVariants as reason
 
@@ -21,28 +22,39 @@ way_by domain enclosed size None = Err reason.NoRoute
 way_by domain enclosed size (Some (way.Link link)) = if nat_lt (mtu_of domain link) size then Err reason.TooBig else Ok (way.Link link)
 way_by domain enclosed size (Some (way.Port port)) = if enclosed then Err reason.IoamOut else Ok (way.Port port)
 
+-- the way is a link, whose packets may not be so long
+abbrev pub IsTooBig : Domain → ℕ → Option Way → Type 0
+IsTooBig domain size None = ⊥
+IsTooBig domain size (Some (way.Link link)) = mtu_of domain link < size
+IsTooBig domain size (Some (way.Port port)) = ⊥
+
+-- the way is a port
+abbrev pub IsPort : Option Way → Type 0
+IsPort None = ⊥
+IsPort (Some (way.Link link)) = ⊥
+IsPort (Some (way.Port port)) = ⊤
+
+-- why a packet of this hop limit and size may be dropped whose way is this, in the order in which a node looks for it
+abbrev pub stops_by : Domain → Bool → ℕ → ℕ → Option Way → List Stop
+stops_by domain enclosed hops size found =
+    stop reason.HopLimit (hops ≤ 1)
+    ∷ stop reason.NoRoute (found ≡ None)
+    ∷ stop reason.TooBig (IsTooBig domain size found)
+    ∷ stop reason.IoamOut (IsTrue enclosed × IsPort found)
+    ∷ []
+
 module _ (domain : Domain) (node : ℕ) (enclosed : Bool) (hops target size : ℕ) where
   -- where the packet is sent: `hops` is the hop limit that the node would lower, `size` what it has as it is sent
   abbrev pub choice : Result Way Reason
   choice = if nat_le hops 1 then Err reason.HopLimit else way_by domain enclosed size (way_to (routes domain) node target)
 
-  -- a reason holds
-  abbrev pub Stops : Reason → Type 0
-  Stops reason.HopLimit = hops ≤ 1
-  Stops reason.NoRoute = way_to (routes domain) node target ≡ None
-  Stops reason.TooBig = (link : LinkId) × (way_to (routes domain) node target ≡ Some (way.Link link)) × (mtu_of domain link < size)
-  Stops reason.IoamOut = (port : PortId) × (way_to (routes domain) node target ≡ Some (way.Port port)) × IsTrue enclosed
-  Stops reason.NotIpv6 = ⊥
-  Stops reason.Cut = ⊥
-  Stops reason.Length = ⊥
-  Stops reason.Chain = ⊥
-  Stops reason.IoamIn = ⊥
-  Stops reason.Local = ⊥
-  Stops reason.EncapLimit = ⊥
+  -- why it may be dropped
+  abbrev pub stops : List Stop
+  stops = stops_by domain enclosed hops size (way_to (routes domain) node target)
 
-  -- the packet is sent this way, and no reason holds
+  -- the packet is sent this way, and no stop holds
   abbrev pub Goes : Way → Type 0
-  Goes way = (way_to (routes domain) node target ≡ Some way) × ((other : Reason) → Stops other → ⊥)
+  Goes way = (way_to (routes domain) node target ≡ Some way) × NoneHolds stops
 
 -- where the node at which a packet is to be enclosed sends the outer packet of this size, whose way is this: by a link only, and
 -- only where the packet may be enclosed once more
@@ -52,29 +64,29 @@ link_by domain refused size (Some (way.Link link)) =
     if refused then Err reason.EncapLimit else (if nat_lt (mtu_of domain link) size then Err reason.TooBig else Ok link)
 link_by domain refused size (Some (way.Port port)) = if refused then Err reason.EncapLimit else Err reason.IoamOut
 
+-- why the packet may be dropped there
+abbrev pub entry_stops_by : Domain → Bool → ℕ → ℕ → Option Way → List Stop
+entry_stops_by domain refused hops size found =
+    stop reason.HopLimit (hops ≤ 1)
+    ∷ stop reason.NoRoute (found ≡ None)
+    ∷ stop reason.EncapLimit (IsTrue refused)
+    ∷ stop reason.TooBig (IsTooBig domain size found)
+    ∷ stop reason.IoamOut (IsPort found)
+    ∷ []
+
 module _ (domain : Domain) (node : ℕ) (refused : Bool) (hops target size : ℕ) where
   -- where the packet enters its tunnel: `hops` is its own hop limit, `target` the tunnel's exit, `size` what the outer packet has;
   -- `refused` says that the packet may not be enclosed once more
   abbrev pub entry_choice : Result LinkId Reason
   entry_choice = if nat_le hops 1 then Err reason.HopLimit else link_by domain refused size (way_to (routes domain) node target)
 
-  -- a reason holds
-  abbrev pub StopsEntry : Reason → Type 0
-  StopsEntry reason.HopLimit = hops ≤ 1
-  StopsEntry reason.NoRoute = way_to (routes domain) node target ≡ None
-  StopsEntry reason.EncapLimit = IsTrue refused
-  StopsEntry reason.TooBig = (link : LinkId) × (way_to (routes domain) node target ≡ Some (way.Link link)) × (mtu_of domain link < size)
-  StopsEntry reason.IoamOut = (port : PortId) × (way_to (routes domain) node target ≡ Some (way.Port port))
-  StopsEntry reason.NotIpv6 = ⊥
-  StopsEntry reason.Cut = ⊥
-  StopsEntry reason.Length = ⊥
-  StopsEntry reason.Chain = ⊥
-  StopsEntry reason.IoamIn = ⊥
-  StopsEntry reason.Local = ⊥
+  -- why it may be dropped
+  abbrev pub entry_stops : List Stop
+  entry_stops = entry_stops_by domain refused hops size (way_to (routes domain) node target)
 
-  -- the packet is sent by this link, and no reason holds
+  -- the packet is sent by this link, and no stop holds
   abbrev pub Enters : LinkId → Type 0
-  Enters link = (way_to (routes domain) node target ≡ Some (way.Link link)) × ((other : Reason) → StopsEntry other → ⊥)
+  Enters link = (way_to (routes domain) node target ≡ Some (way.Link link)) × NoneHolds entry_stops
 
 -- by which port a packet leaves that came out of its tunnel, whose way is this: a link is none
 abbrev pub port_by : Option Way → Result PortId Reason
@@ -82,31 +94,19 @@ port_by None = Err reason.NoRoute
 port_by (Some (way.Link link)) = Err reason.NoRoute
 port_by (Some (way.Port port)) = Ok port
 
--- no port of the node is the way
-abbrev pub LeadsNowhere : Option Way → Type 0
-LeadsNowhere None = ⊤
-LeadsNowhere (Some (way.Link link)) = ⊤
-LeadsNowhere (Some (way.Port port)) = ⊥
+-- why such a packet may be dropped: its hop limit, or no port of the node is its way
+abbrev pub exit_stops_by : ℕ → Option Way → List Stop
+exit_stops_by hops found = stop reason.HopLimit (hops ≤ 1) ∷ stop reason.NoRoute (IsPort found → ⊥) ∷ []
 
 module _ (domain : Domain) (node hops target : ℕ) where
   -- where the packet comes out of its tunnel: `hops` is its own hop limit there, `target` its own target
   abbrev pub exit_choice : Result PortId Reason
   exit_choice = if nat_le hops 1 then Err reason.HopLimit else port_by (way_to (routes domain) node target)
 
-  -- a reason holds
-  abbrev pub StopsExit : Reason → Type 0
-  StopsExit reason.HopLimit = hops ≤ 1
-  StopsExit reason.NoRoute = LeadsNowhere (way_to (routes domain) node target)
-  StopsExit reason.EncapLimit = ⊥
-  StopsExit reason.TooBig = ⊥
-  StopsExit reason.IoamOut = ⊥
-  StopsExit reason.NotIpv6 = ⊥
-  StopsExit reason.Cut = ⊥
-  StopsExit reason.Length = ⊥
-  StopsExit reason.Chain = ⊥
-  StopsExit reason.IoamIn = ⊥
-  StopsExit reason.Local = ⊥
+  -- why it may be dropped
+  abbrev pub exit_stops : List Stop
+  exit_stops = exit_stops_by hops (way_to (routes domain) node target)
 
-  -- the packet leaves by this port, and no reason holds
+  -- the packet leaves by this port, and no stop holds
   abbrev pub Leaves : PortId → Type 0
-  Leaves port = (way_to (routes domain) node target ≡ Some (way.Port port)) × ((other : Reason) → StopsExit other → ⊥)
+  Leaves port = (way_to (routes domain) node target ≡ Some (way.Port port)) × NoneHolds exit_stops

@@ -1,22 +1,22 @@
--- The reasons why a packet is dropped, in the order in which they are looked for.
-use Rattle.std.specs.Prelude.{ℕ, ◌<◌}
+-- The reasons why a packet is dropped at one place, as a list in the order in which they are looked for.
+use Rattle.std.specs.Prelude.{◌≡◌, ◌⊎◌, ⊤, List, [], ◌∷◌}
 use Rattle.ioam_node.specs.declared.reason.Reason.{Reason}
-use Rattle.ioam_node.specs.declared.reason.Reason.TheVariants as reason
 
--- the place of a reason in the order
-abbrev pub rank : Reason → ℕ
-rank reason.NotIpv6 = 1
-rank reason.Cut = 2
-rank reason.Length = 3
-rank reason.Chain = 4
-rank reason.IoamIn = 5
-rank reason.Local = 6
-rank reason.HopLimit = 7
-rank reason.NoRoute = 8
-rank reason.EncapLimit = 9
-rank reason.TooBig = 10
-rank reason.IoamOut = 11
+-- a reason, and when it holds
+pub record Stop : Type 1 where
+  pub why : Reason
+  pub holds : Type 0
 
--- of the reasons that hold this is the first
-abbrev pub IsFirst : (Reason → Type 0) → Reason → Type 0
-IsFirst Holds first = Holds first × ((other : Reason) → rank other < rank first → Holds other → ⊥)
+-- a row of a list of stops
+abbrev pub stop : Reason → Type 0 → Stop
+stop why holds = record { why = why; holds = holds }
+
+-- the first stop of a list that holds has this reason
+abbrev pub IsFirst : List Stop → Reason → Type 0
+IsFirst [] why = ⊥
+IsFirst (row ∷ rows) why = (row.holds × (row.why ≡ why)) ⊎ ((row.holds → ⊥) × IsFirst rows why)
+
+-- no stop of a list holds
+abbrev pub NoneHolds : List Stop → Type 0
+NoneHolds [] = ⊤
+NoneHolds (row ∷ rows) = (row.holds → ⊥) × NoneHolds rows

@@ -3,7 +3,7 @@ ghost use Rattle.std.specs.Prelude.{◌≡◌, ◌<◌, ◌≤◌, IfOk, MatchRe
 ghost use Rattle.ioam_topo.specs.Domain.{links, ports};
 ghost use Rattle.ioam_topo.specs.Forward.{IsWayFrom};
 ghost use Rattle.ioam_topo.specs.declared.ids.Way.TheVariants as way;
-ghost use Rattle.ioam_node.specs.Choice.{choice, Stops, Goes, entry_choice, StopsEntry, Enters, exit_choice, StopsExit, Leaves};
+ghost use Rattle.ioam_node.specs.Choice.{choice, stops, Goes, entry_choice, entry_stops, Enters, exit_choice, exit_stops, Leaves};
 ghost use Rattle.ioam_node.specs.Order.{IsFirst};
 
 use crate::reason::Reason;
@@ -15,6 +15,7 @@ use ioam_topo::{Domain, LinkId, NodeId, PortId, Way};
 /// `hops` is the hop limit that this node would lower, `target` the address that is routed, and
 /// `size` the octets of the packet as it would be sent. `enclosed` says that the packet is enclosed
 /// or is to be.
+#[tactic(auto, using(crate::proofs::ChoiceLaws::choice_right))]
 pub fn transit(
     domain: &Domain,
     node: NodeId,
@@ -25,7 +26,7 @@ pub fn transit(
 ) -> Result<Way, Reason>
     ensures way { result ≡ choice domain.now node.0 enclosed hops target size }
     ensures first { MatchResult result (Goes domain.now node.0 enclosed hops target size)
-        (IsFirst (Stops domain.now node.0 enclosed hops target size)) }
+        (IsFirst (stops domain.now node.0 enclosed hops target size)) }
     ensures lowered { IfOk result (λ _. 2 ≤ hops) }
     ensures inside { IfOk result (IsWayFrom (links domain.now) (ports domain.now) node.0) }
 {
@@ -52,6 +53,7 @@ pub fn transit(
 /// `hops` is the packet's own hop limit, `target` the address of the tunnel's exit, and `size` the
 /// octets of the outer packet. `refused` says that the packet may not be enclosed once more: its
 /// Tunnel Encapsulation Limit is 0 (RFC 2473 section 4.1.1).
+#[tactic(auto, using(crate::proofs::ChoiceLaws::entry_right))]
 pub fn begin(
     domain: &Domain,
     node: NodeId,
@@ -62,7 +64,7 @@ pub fn begin(
 ) -> Result<LinkId, Reason>
     ensures link { result ≡ entry_choice domain.now node.0 refused hops target size }
     ensures first { MatchResult result (Enters domain.now node.0 refused hops target size)
-        (IsFirst (StopsEntry domain.now node.0 refused hops target size)) }
+        (IsFirst (entry_stops domain.now node.0 refused hops target size)) }
     ensures lowered { IfOk result (λ _. 2 ≤ hops) }
     ensures inside { IfOk result (λ link. IsWayFrom (links domain.now) (ports domain.now) node.0 (way.Link link)) }
     ensures fits { IfOk result (λ _. size ≤ 65575) }
@@ -89,10 +91,11 @@ pub fn begin(
 /// domain at the exits of their tunnels.
 ///
 /// `hops` is the hop limit that the packet has there, and `target` its own target.
+#[tactic(auto, using(crate::proofs::ChoiceLaws::exit_right))]
 pub fn exit(domain: &Domain, node: NodeId, hops: u8, target: u128) -> Result<PortId, Reason>
     ensures port { result ≡ exit_choice domain.now node.0 hops target }
     ensures first { MatchResult result (Leaves domain.now node.0 hops target)
-        (IsFirst (StopsExit domain.now node.0 hops target)) }
+        (IsFirst (exit_stops domain.now node.0 hops target)) }
     ensures lowered { IfOk result (λ _. 2 ≤ hops) }
     ensures inside { IfOk result (λ port. port.0 < length (ports domain.now)) }
 {

@@ -4,7 +4,6 @@ pub mod StageLaws
 pub mod CountedLaws
 pub mod RidesLaws
 pub mod FlowLaws
-pub mod ChoiceLaws
 pub mod PassesLaws
 pub mod PlannedLaws
 pub mod TravelsLaws

@@ -12,6 +12,7 @@ use Rattle.ioam_topo.specs.declared.parts.Link.{Link}
 use Rattle.ioam_topo.specs.declared.parts.Port.{Port}
 use Rattle.ioam_topo.specs.Domain.{links, ports}
 use Rattle.ioam_node.specs.Choice.{choice, exit_choice}
+use Rattle.ioam_node.proofs.ChoiceLaws.{choice_goes, choice_first, entry_goes, entry_first, exit_goes, exit_first}
 use Rattle.ioam_tunnel.specs.Enclosed.{address_at}
 use Rattle.ioam_tunnel.specs.declared.numbers.Numbers.{Numbers}
 use Rattle.ioam_plan.specs.declared.itinerary.End.{End}
@@ -27,7 +28,6 @@ use Rattle.ioam_plan.specs.declared.stage.Trip.{Trip}
 use Rattle.ioam_plan.specs.Journey.{Reaches, step_at, sent_on, sent_in, visit_by, across, crossed, end_by, carried_by}
 use Rattle.ioam_plan.specs.Passes.{visit_at, PassesPlain, PassesInside, ComesOut}
 use Rattle.ioam_plan.specs.Travels.{PassesEntry}
-use Rattle.ioam_plan.proofs.ChoiceLaws.{choice_goes, choice_first, entry_goes, entry_first, exit_goes, exit_first}
 
 -- where a packet comes to a node
 abbrev pub spot_at : NodeId → ℕ → ℕ → ℕ → JourneySpot

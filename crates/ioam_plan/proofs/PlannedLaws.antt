@@ -16,10 +16,10 @@ use Rattle.ioam_topo.specs.declared.parts.Route.{Route}
 use Rattle.ioam_topo.specs.Domain.{nodes, links, ports, routes}
 use Rattle.ioam_topo.specs.Forward.{IsWayFrom, bits_of, fits, longest, way_to}
 use Rattle.ioam_topo.proofs.ForwardLaws.{way_inside}
-use Rattle.ioam_node.specs.Choice.{choice, Stops, Goes, entry_choice, StopsEntry, Enters, exit_choice, StopsExit, Leaves}
-use Rattle.ioam_node.specs.Order.{IsFirst}
+use Rattle.ioam_node.specs.Choice.{choice, stops, Goes, entry_choice, entry_stops, Enters, exit_choice, exit_stops, Leaves}
+use Rattle.ioam_node.specs.Order.{Stop, IsFirst}
 use Rattle.ioam_node.specs.declared.reason.Reason.{Reason}
-use Rattle.ioam_node.specs.declared.reason.Reason.TheVariants as reason
+use Rattle.ioam_node.proofs.ChoiceLaws.{choice_right, enclosed_stays, entry_right, exit_right}
 use Rattle.ioam_tunnel.specs.Enclosed.{address_at}
 use Rattle.ioam_tunnel.specs.declared.numbers.Numbers.{Numbers}
 use Rattle.ioam_plan.specs.declared.itinerary.End.{End}
@@ -34,7 +34,6 @@ use Rattle.ioam_plan.specs.declared.stage.Trip.{Trip}
 use Rattle.ioam_plan.specs.Journey.{step_at, sent_on, sent_in, visit_by, across, end_by, carried_by}
 use Rattle.ioam_plan.specs.Passes.{visit_at, IsDropped, IsPortOf, GoesOut, GoesOn, PassesPlain, PassesInside, ComesOut}
 use Rattle.ioam_plan.specs.Travels.{PassesEntry}
-use Rattle.ioam_plan.proofs.ChoiceLaws.{choice_right, entry_right, exit_right}
 use Rattle.ioam_plan.proofs.PassesLaws.{spot_at, plain_by, inside_by, Runs, over_link, out_port, same_node, held, entering}
 
 -- ---- ways of a domain
@@ -116,17 +115,17 @@ module _ (domain : Domain) (enclosed : Bool) (target size : ℕ) (node : NodeId)
   abbrev Sent : Way → Type 0
   Sent = Goes domain node.0 enclosed hops target size
 
-  abbrev Held_up : Reason → Type 0
-  Held_up = Stops domain node.0 enclosed hops target size
+  abbrev rows : List Stop
+  rows = stops domain node.0 enclosed hops target size
 
   abbrev step_by : Result Way Reason → JourneyStep
   step_by r = sent_on domain (spot_at node inward time hops) (hops - 1) r
 
-  pub right_by : (r : Result Way Reason) → answers ≡ r → MatchResult r Sent (IsFirst Held_up)
-  right_by r is = subst (λ (r : Result Way Reason). MatchResult r Sent (IsFirst Held_up)) is (choice_right domain node.0 enclosed hops target size)
+  pub right_by : (r : Result Way Reason) → answers ≡ r → MatchResult r Sent (IsFirst rows)
+  right_by r is = subst (λ (r : Result Way Reason). MatchResult r Sent (IsFirst rows)) is (choice_right domain node.0 enclosed hops target size)
 
   drops : (r : Result Way Reason) → answers ≡ r → (end : End) (exited : Bool) → step_by r ≡ Ends end exited
-      → IsDropped Held_up node end × (exited ≡ false)
+      → IsDropped rows node end × (exited ≡ false)
   drops (Ok (way.Link id)) is end exited ends =
       absurd (goes_ends (visit_by domain (spot_at node inward time hops) (Some (way.Link id))) (across domain (spot_at node inward time hops) (hops - 1) id) end exited ends)
   drops (Ok (way.Port id)) is end exited ends =
@@ -209,13 +208,13 @@ module _ (domain : Domain) (size : ℕ) (inside : Inside) where
   comes_out : (node : NodeId) (r : Result PortId Reason) → exit_choice domain node.0 inside.hops inside.target ≡ r → (end : End) (exited : Bool)
       → Ends (end_by node r) true ≡ Ends end exited → ComesOut domain inside.target inside.hops node end × (exited ≡ true)
   comes_out node (Ok id) is end exited ends =
-      let P : Result PortId Reason → Type 0 = λ r. MatchResult r (Leaves domain node.0 inside.hops inside.target) (IsFirst (StopsExit domain node.0 inside.hops inside.target)) in
+      let P : Result PortId Reason → Type 0 = λ r. MatchResult r (Leaves domain node.0 inside.hops inside.target) (IsFirst (exit_stops domain node.0 inside.hops inside.target)) in
       let leaves : Leaves domain node.0 inside.hops inside.target id = subst P is (exit_right domain node.0 inside.hops inside.target) in
       let at = port_there domain node inside.target id leaves.0 in
       (inl (id, at.0, at.1, leaves, ends_end (Left id) end true exited ends), ends_exited (Left id) end true exited ends)
   comes_out node (Err why) is end exited ends =
-      let P : Result PortId Reason → Type 0 = λ r. MatchResult r (Leaves domain node.0 inside.hops inside.target) (IsFirst (StopsExit domain node.0 inside.hops inside.target)) in
-      let first : IsFirst (StopsExit domain node.0 inside.hops inside.target) why = subst P is (exit_right domain node.0 inside.hops inside.target) in
+      let P : Result PortId Reason → Type 0 = λ r. MatchResult r (Leaves domain node.0 inside.hops inside.target) (IsFirst (exit_stops domain node.0 inside.hops inside.target)) in
+      let first : IsFirst (exit_stops domain node.0 inside.hops inside.target) why = subst P is (exit_right domain node.0 inside.hops inside.target) in
       (inr (why, first, ends_end (Drop why node) end true exited ends), ends_exited (Drop why node) end true exited ends)
 
   out_ends : (node : NodeId) (visits : List Visit) (end : End) (exited : Bool) → Runs domain outer (Out node inside) visits end exited
@@ -243,7 +242,7 @@ module _ (domain : Domain) (size : ℕ) (inside : Inside) where
       → Onward domain true (address_at domain inside.exit) size node inward time hops outer visit visits end exited
       → PassesInside domain inside.exit size inside.target inside.hops node inward time hops (visit ∷ visits) end exited
   inside_on node inward time hops visit visits end exited differs more (inl out) =
-      absurd (out.0.sent.1 reason.IoamOut (out.0.id, out.0.sent.0, refl))
+      absurd (enclosed_stays domain node.0 hops (address_at domain inside.exit) size out.0.id out.0.sent)
   inside_on node inward time hops visit visits end exited differs more (inr on) =
       inr (differs, record { id = on.id; link = on.link; there = on.there; of_node = on.of_node; sent = on.sent; visited = on.visited; follows = more on.link on.follows })
 
@@ -282,20 +281,20 @@ module _ (domain : Domain) (id : FlowId) (flow : Flow) (numbers : Numbers) (refu
   abbrev start : NodeId → ℕ → ℕ → Stage
   start node inward time = Enter (spot_at node inward time hops) (entering domain id flow numbers refused size target hops)
 
-  abbrev Drops_in : NodeId → Reason → Type 0
-  Drops_in node = StopsEntry domain node.0 refused hops (address_at domain flow.exit) size
+  abbrev rows_in : NodeId → List Stop
+  rows_in node = entry_stops domain node.0 refused hops (address_at domain flow.exit) size
 
   abbrev Goes_in : NodeId → LinkId → Type 0
   Goes_in node = Enters domain node.0 refused hops (address_at domain flow.exit) size
 
   pub right_in : (node : NodeId) (r : Result LinkId Reason) → entry_choice domain node.0 refused hops (address_at domain flow.exit) size ≡ r
-      → MatchResult r (Goes_in node) (IsFirst (Drops_in node))
-  right_in node r is = subst (λ (r : Result LinkId Reason). MatchResult r (Goes_in node) (IsFirst (Drops_in node))) is
+      → MatchResult r (Goes_in node) (IsFirst (rows_in node))
+  right_in node r is = subst (λ (r : Result LinkId Reason). MatchResult r (Goes_in node) (IsFirst (rows_in node))) is
       (entry_right domain node.0 refused hops (address_at domain flow.exit) size)
 
   drops_in : (node : NodeId) (inward time : ℕ) (r : Result LinkId Reason) → entry_choice domain node.0 refused hops (address_at domain flow.exit) size ≡ r
       → (end : End) (exited : Bool) → sent_in domain (spot_at node inward time hops) flow.hops r ≡ Ends end exited
-      → IsDropped (Drops_in node) node end × (exited ≡ false)
+      → IsDropped (rows_in node) node end × (exited ≡ false)
   drops_in node inward time (Ok link) is end exited ends =
       absurd (goes_ends (visit_by domain (spot_at node inward time hops) (Some (way.Link link))) (across domain (spot_at node inward time hops) flow.hops link) end exited ends)
   drops_in node inward time (Err why) is end exited ends =

@@ -18,12 +18,12 @@ use Rattle.ioam_topo.specs.declared.parts.Link.{Link}
 use Rattle.ioam_topo.specs.declared.parts.Port.{Port}
 use Rattle.ioam_topo.specs.Domain.{flows, ports}
 use Rattle.ioam_node.specs.Admission.{KnowsFlow}
-use Rattle.ioam_node.specs.Choice.{choice, entry_choice, exit_choice, StopsExit, Leaves}
+use Rattle.ioam_node.specs.Choice.{choice, entry_choice, exit_choice, exit_stops, Leaves}
 use Rattle.ioam_node.specs.Order.{IsFirst}
 use Rattle.ioam_node.specs.declared.answer.Admit.{Admit}
 use Rattle.ioam_node.specs.declared.answer.Admit.TheVariants as admit
 use Rattle.ioam_node.specs.declared.reason.Reason.{Reason}
-use Rattle.ioam_node.specs.declared.reason.Reason.TheVariants as reason
+use Rattle.ioam_node.proofs.ChoiceLaws.{enclosed_stays, exit_right, goes_high}
 use Rattle.ioam_tunnel.specs.Enclosed.{address_at}
 use Rattle.ioam_tunnel.specs.Limits.{limit_by}
 use Rattle.ioam_tunnel.specs.Size.{outer_size}
@@ -36,7 +36,6 @@ use Rattle.ioam_plan.specs.Counted.{enclosed_in}
 use Rattle.ioam_plan.specs.Drawn.{numbers_of, is_refused}
 use Rattle.ioam_plan.specs.Passes.{visit_at, PassesPlain, PassesInside, ComesOut}
 use Rattle.ioam_plan.specs.Travels.{PassesEntry, Travels, TravelsBy, TravelsFlow}
-use Rattle.ioam_plan.proofs.ChoiceLaws.{exit_right}
 use Rattle.ioam_plan.proofs.PlannedLaws.{there_in, link_there, port_there, right_by, right_in, here_is, not_here_is}
 
 none_left : (hops : ℕ) → (hops ≤ 1 → ⊥) → hops ≤ 0 → ⊥
@@ -60,7 +59,7 @@ module _ (domain : Domain) (target size : ℕ) where
   plainly_by node inward time hops (Ok (way.Link id)) is more =
       let sent = right_by domain false target size node inward time hops (Ok (way.Link id)) is in
       let at = link_there domain node target id sent.0 in
-      let rest = more (sent.1 reason.HopLimit) at.0 in (
+      let rest = more (goes_high domain node.0 false hops target size (way.Link id) sent) at.0 in (
         visit_at node inward time (Some (way.Link id)) (Some at.0.out_id) ∷ rest.0,
         rest.1,
         inr (record { id = id; link = at.0; there = at.1; of_node = at.2; sent = sent; visited = refl; follows = rest.2 }),
@@ -81,13 +80,13 @@ module _ (domain : Domain) (exit : NodeId) (size target inner : ℕ) where
 
   out_by : (node : NodeId) (r : Result PortId Reason) → exit_choice domain node.0 inner target ≡ r → (end : End) × ComesOut domain target inner node end
   out_by node (Ok id) is =
-      let P : Result PortId Reason → Type 0 = λ r. MatchResult r (Leaves domain node.0 inner target) (IsFirst (StopsExit domain node.0 inner target)) in
+      let P : Result PortId Reason → Type 0 = λ r. MatchResult r (Leaves domain node.0 inner target) (IsFirst (exit_stops domain node.0 inner target)) in
       let leaves : Leaves domain node.0 inner target id = subst P is (exit_right domain node.0 inner target) in
       let at = port_there domain node target id leaves.0 in
       (Left id, inl (id, at.0, at.1, leaves, refl))
   out_by node (Err why) is =
-      let P : Result PortId Reason → Type 0 = λ r. MatchResult r (Leaves domain node.0 inner target) (IsFirst (StopsExit domain node.0 inner target)) in
-      let first : IsFirst (StopsExit domain node.0 inner target) why = subst P is (exit_right domain node.0 inner target) in
+      let P : Result PortId Reason → Type 0 = λ r. MatchResult r (Leaves domain node.0 inner target) (IsFirst (exit_stops domain node.0 inner target)) in
+      let first : IsFirst (exit_stops domain node.0 inner target) why = subst P is (exit_right domain node.0 inner target) in
       (Drop why node, inr (why, first, refl))
 
   on_by : (node : NodeId) (inward time hops : ℕ) (r : Result Way Reason) → choice domain node.0 true hops (address_at domain exit) size ≡ r
@@ -97,11 +96,11 @@ module _ (domain : Domain) (exit : NodeId) (size target inner : ℕ) where
       ([], Drop why node, false, (differs, (why, first, refl), refl))
   on_by node inward time hops (Ok (way.Port id)) is differs more =
       let sent = right_by domain true (address_at domain exit) size node inward time hops (Ok (way.Port id)) is in
-      absurd (sent.1 reason.IoamOut (id, sent.0, refl))
+      absurd (enclosed_stays domain node.0 hops (address_at domain exit) size id sent)
   on_by node inward time hops (Ok (way.Link id)) is differs more =
       let sent = right_by domain true (address_at domain exit) size node inward time hops (Ok (way.Link id)) is in
       let at = link_there domain node (address_at domain exit) id sent.0 in
-      let rest = more (sent.1 reason.HopLimit) at.0 in (
+      let rest = more (goes_high domain node.0 true hops (address_at domain exit) size (way.Link id) sent) at.0 in (
         visit_at node inward time (Some (way.Link id)) (Some at.0.out_id) ∷ rest.0,
         rest.1,
         rest.2,

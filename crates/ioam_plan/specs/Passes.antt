@@ -17,8 +17,8 @@ use Rattle.ioam_topo.specs.declared.ids.Way.{Way}
 use Rattle.ioam_topo.specs.declared.ids.Way.TheVariants as way
 use Rattle.ioam_topo.specs.declared.parts.Link.{Link}
 use Rattle.ioam_topo.specs.declared.parts.Port.{Port}
-use Rattle.ioam_node.specs.Choice.{Stops, Goes, StopsExit, Leaves}
-use Rattle.ioam_node.specs.Order.{IsFirst}
+use Rattle.ioam_node.specs.Choice.{stops, Goes, exit_stops, Leaves}
+use Rattle.ioam_node.specs.Order.{Stop, IsFirst}
 use Rattle.ioam_node.specs.declared.reason.Reason.{Reason}
 use Rattle.ioam_tunnel.specs.Enclosed.{address_at}
 use Rattle.ioam_plan.specs.declared.itinerary.End.{End}
@@ -29,9 +29,9 @@ use Rattle.ioam_plan.specs.declared.itinerary.Visit.{Visit}
 abbrev pub visit_at : NodeId → ℕ → ℕ → Option Way → Option ℕ → Visit
 visit_at node inward time sent outward = record { place = record { node = node; inward = inward; outward = outward }; way = sent; time = time }
 
--- the packet is dropped at a node: of the reasons that hold this is the first
-abbrev pub IsDropped : (Reason → Type 0) → NodeId → End → Type 0
-IsDropped Holds node end = (reason : Reason) × IsFirst Holds reason × (end ≡ Drop reason node)
+-- the packet is dropped at a node: of these stops this is the first that holds
+abbrev pub IsDropped : List Stop → NodeId → End → Type 0
+IsDropped rows node end = (reason : Reason) × IsFirst rows reason × (end ≡ Drop reason node)
 
 module _ (domain : Domain) where
   -- the port with this place in the file is one of this node
@@ -63,7 +63,7 @@ module _ (domain : Domain) where
     -- from this node, reached by this interface at this time with this hop limit, the packet makes these visits and then ends
     -- so
     abbrev pub PassesPlain : NodeId → ℕ → ℕ → ℕ → List Visit → End → Type 0
-    PassesPlain node inward time hops [] end = IsDropped (Stops domain node.0 false hops target size) node end
+    PassesPlain node inward time hops [] end = IsDropped (stops domain node.0 false hops target size) node end
     PassesPlain node inward time hops (visit ∷ visits) end =
         GoesOut (λ id. Goes domain node.0 false hops target size (way.Port id)) node inward time visit visits end
         ⊎ GoesOn (λ id. Goes domain node.0 false hops target size (way.Link id)) node inward time visit
@@ -73,7 +73,7 @@ module _ (domain : Domain) where
   abbrev pub ComesOut : ℕ → ℕ → NodeId → End → Type 0
   ComesOut target hops node end =
       ((id : PortId) × (port : Port) × IsPortOf node id port × Leaves domain node.0 hops target id × (end ≡ Left id))
-      ⊎ IsDropped (StopsExit domain node.0 hops target) node end
+      ⊎ IsDropped (exit_stops domain node.0 hops target) node end
 
   -- an outer packet of this size comes to a node on its way to the exit of its tunnel with this hop limit; the packet inside has a
   -- target and a hop limit of its own; `exited` says whether it reached the exit
@@ -82,7 +82,7 @@ module _ (domain : Domain) where
     -- and the packet ends so
     abbrev pub PassesInside : NodeId → ℕ → ℕ → ℕ → List Visit → End → Bool → Type 0
     PassesInside node inward time hops [] end exited =
-        (node ≢ exit) × IsDropped (Stops domain node.0 true hops (address_at domain exit) size) node end × (exited ≡ false)
+        (node ≢ exit) × IsDropped (stops domain node.0 true hops (address_at domain exit) size) node end × (exited ≡ false)
     PassesInside node inward time hops (visit ∷ visits) end exited =
         ((node ≡ exit) × (visit ≡ visit_at node inward time None None) × (visits ≡ []) × ComesOut target inner node end × (exited ≡ true))
         ⊎ ((node ≢ exit) × GoesOn (λ id. Goes domain node.0 true hops (address_at domain exit) size (way.Link id)) node inward time visit

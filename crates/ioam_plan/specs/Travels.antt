@@ -10,7 +10,7 @@ use Rattle.ioam_topo.specs.declared.ids.NodeId.{NodeId}
 use Rattle.ioam_topo.specs.declared.ids.PortId.{PortId}
 use Rattle.ioam_topo.specs.declared.parts.Flow.{Flow}
 use Rattle.ioam_topo.specs.declared.parts.Port.{Port}
-use Rattle.ioam_node.specs.Choice.{StopsEntry, Enters}
+use Rattle.ioam_node.specs.Choice.{entry_stops, Enters}
 use Rattle.ioam_node.specs.declared.answer.Admit.{Admit}
 use Rattle.ioam_node.specs.declared.answer.Admit.TheVariants as admit
 use Rattle.ioam_tunnel.specs.Enclosed.{address_at}
@@ -41,7 +41,7 @@ module _ (domain : Domain) (id : FlowId) (flow : Flow) (numbers : Numbers) (refu
   -- with these numbers or not at all
   abbrev pub PassesEntry : NodeId → ℕ → ℕ → List Visit → End → Bool → Option (FlowId × Numbers) → Type 0
   PassesEntry node inward time [] end exited carried =
-      IsDropped (StopsEntry domain node.0 refused hops (address_at domain flow.exit) size) node end × (exited ≡ false) × (carried ≡ None)
+      IsDropped (entry_stops domain node.0 refused hops (address_at domain flow.exit) size) node end × (exited ≡ false) × (carried ≡ None)
   PassesEntry node inward time (visit ∷ visits) end exited carried =
       GoesOn domain (Enters domain node.0 refused hops (address_at domain flow.exit) size) node inward time visit
       (λ link. PassesInside domain flow.exit size target (hops - 1) link.to link.in_id (time + link.delay) flow.hops visits end exited)
