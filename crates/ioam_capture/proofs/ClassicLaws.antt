@@ -4,7 +4,7 @@ use Rattle.std.specs.Prelude.{map, if◌then◌else◌}
 use Rattle.std.proofs.lemmas.Bool.{cases_eq, false≢true}
 use Rattle.std.proofs.lemmas.List.{map-append}
 use Rattle.ioam_base.proofs.LeadsLaws.{Leads-push, Leads-beyond}
-use Rattle.ioam_pcap.specs.declared.form.Link.{Link}
+use Rattle.ioam_ip.specs.declared.layer.Layer.{Layer}
 use Rattle.ioam_pcap.specs.declared.form.Form.{Form}
 use Rattle.ioam_pcap.specs.declared.capture.CapFault.{CapFault}
 use Rattle.ioam_pcap.specs.declared.capture.CapFault.TheVariants as fault
@@ -20,9 +20,9 @@ use Rattle.ioam_capture.specs.Reads.{of_link, IsClassicly}
 use Rattle.ioam_capture.specs.Streams.{known_ending}
 
 -- records that were reached begin those that the octets read as; and the head stays
-module _ (octets : List ℕ) (link : Option Link) (all : List Entry) (ending : Ending) (reads : Reads octets link all ending) where
-  abbrev Begins : Option Link → List Entry → Type 0
-  Begins known entries = (more : List Entry) × (all ≡ entries ++ more) × ((l : Link) → known ≡ Some l → link ≡ Some l)
+module _ (octets : List ℕ) (link : Option Layer) (all : List Entry) (ending : Ending) (reads : Reads octets link all ending) where
+  abbrev Begins : Option Layer → List Entry → Type 0
+  Begins known entries = (more : List Entry) × (all ≡ entries ++ more) × ((l : Layer) → known ≡ Some l → link ≡ Some l)
 
   begins_by : (form : Form) (entries : List Entry) (at : ℕ) → HasHead octets form → Entries form octets 24 entries at
       → (other : Option Form) (end : ℕ) → Reached octets other all end → EndsAt octets other end ending → link ≡ link_by other
@@ -90,7 +90,7 @@ abbrev pub GoesOn : List Taken → Ending → List Taken → Ending → Type 0
 GoesOn xs d ys e = ((known_ending false d ≡ None) × ((others : List Taken) × (ys ≡ xs ++ others)))
     ⊎ ((ys ≡ xs) × (e ≡ d) × (known_ending false d ≡ Some d))
 
-of_link-begins : (link later : Option Link) (xs ys others : List Entry) → ((l : Link) → link ≡ Some l → later ≡ Some l) → ys ≡ xs ++ others
+of_link-begins : (link later : Option Layer) (xs ys others : List Entry) → ((l : Layer) → link ≡ Some l → later ≡ Some l) → ys ≡ xs ++ others
     → (more : List Taken) × (of_link later ys ≡ of_link link xs ++ more)
 of_link-begins None later xs ys others keeps is = (of_link later ys, refl)
 of_link-begins (Some l) later xs ys others keeps is =
@@ -160,7 +160,7 @@ module _ (reader : Reading) (octets : List ℕ) (entries : List Entry) (stands :
 
   -- a record that is due is the next of those that the octets read as
   abbrev pub BeginsWith : Entry → List Taken → Type 0
-  BeginsWith e all = (link : Link) × (more : List Taken) × (all ≡ of_link (link_of reader) entries ++ record { link = link; entry = e } ∷ more)
+  BeginsWith e all = (link : Layer) × (more : List Taken) × (all ≡ of_link (link_of reader) entries ++ record { link = link; entry = e } ∷ more)
 
   pub Classic-due : (e : Entry) → EntryAt octets reader.form reader.start e → (all : List Taken) (ending : Ending) → IsClassicly octets all ending
       → BeginsWith e all

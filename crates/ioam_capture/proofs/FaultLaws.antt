@@ -3,7 +3,7 @@ use Rattle.std.proofs.Common.{◌≡◌, ℕ, sym, subst}
 use Rattle.ioam_pcap.specs.declared.capture.CapFault.{CapFault}
 use Rattle.ioam_pcap.specs.declared.capture.CapStep.{CapStep}
 use Rattle.ioam_pcap.specs.declared.capture.CapStep.TheVariants as cap
-use Rattle.ioam_pcap.specs.declared.form.Link.{Link}
+use Rattle.ioam_ip.specs.declared.layer.Layer.{Layer}
 use Rattle.ioam_pcap.specs.Reading as classic_reading
 use Rattle.ioam_pcap.specs.Reader as classic
 use Rattle.ioam_ng.specs.declared.reader.NgStep.{NgStep}
@@ -22,7 +22,7 @@ keeps_fault old new same at f has = subst (λ r. HasFault r at f) (sym same) has
 
 module _ (old : classic_reading.Reading) where
   abbrev pub ClassicSays : CapStep → Type 0
-  ClassicSays (cap.Packet p) = (link : Link) → SaysFault (Classic old) (Packet link p)
+  ClassicSays (cap.Packet p) = (link : Layer) → SaysFault (Classic old) (Packet link p)
   ClassicSays cap.More = SaysFault (Classic old) More
   ClassicSays (cap.Bad at f) = SaysFault (Classic old) (Bad at f)
   ClassicSays (cap.Head other) = (at : ℕ) (f : CapFault) → HasFault (Classic old) at f → ⊥

@@ -7,7 +7,7 @@ use Rattle.std.proofs.lemmas.List.Elements.{All-nil, All-cons, All-head, All-tai
 use Rattle.std.proofs.lemmas.Option.{none-some, same_Some}
 use Rattle.ioam_pcap.specs.declared.capture.CapFault.{CapFault}
 use Rattle.ioam_pcap.specs.declared.capture.CapFault.TheVariants as fault
-use Rattle.ioam_pcap.specs.declared.form.Link.{Link}
+use Rattle.ioam_ip.specs.declared.layer.Layer.{Layer}
 use Rattle.ioam_pcap.specs.Link.{link_type}
 use Rattle.ioam_pcap.specs.Ending.{Ending}
 use Rattle.ioam_pcap.specs.Entries.{Entry, Taken, IsShort}
@@ -26,7 +26,7 @@ IsFew t = length t.entry.octets ≤ 262144
 
 -- ---- of the classic form
 
-of_link-few : (link : Option Link) (entries : List Entry) → All IsShort entries → All IsFew (of_link link entries)
+of_link-few : (link : Option Layer) (entries : List Entry) → All IsShort entries → All IsFew (of_link link entries)
 of_link-few None entries short = All-nil IsFew
 of_link-few (Some l) [] short = All-nil IsFew
 of_link-few (Some l) (e ∷ es) short =

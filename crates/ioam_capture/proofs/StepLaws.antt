@@ -6,7 +6,7 @@ use Rattle.ioam_pcap.specs.declared.capture.CapFault.{CapFault}
 use Rattle.ioam_pcap.specs.declared.capture.CapStep.{CapStep}
 use Rattle.ioam_pcap.specs.declared.capture.CapStep.TheVariants as cap
 use Rattle.ioam_pcap.specs.declared.capture.Packet as packet
-use Rattle.ioam_pcap.specs.declared.form.Link.{Link}
+use Rattle.ioam_ip.specs.declared.layer.Layer.{Layer}
 use Rattle.ioam_pcap.specs.Ending.{Faulty}
 use Rattle.ioam_pcap.specs.Entries.{Entry, Taken}
 use Rattle.ioam_pcap.specs.Reads.{link_by}
@@ -86,7 +86,7 @@ leaves_waiting old new same waits few =
 -- ---- of the classic form
 
 -- with a record more
-with_record : (link : Link) (entries : List Entry) (e : Entry) (taken : List Taken) (old new : Option Link) → old ≡ Some link → new ≡ old → taken ≡ of_link old entries
+with_record : (link : Layer) (entries : List Entry) (e : Entry) (taken : List Taken) (old new : Option Layer) → old ≡ Some link → new ≡ old → taken ≡ of_link old entries
     → taken ++ record { link = link; entry = e } ∷ [] ≡ of_link new (entries ++ e ∷ [])
 with_record link entries e taken old new linked same is =
     let with_link : Entry → Taken = λ entry. record { link = link; entry = entry } in
@@ -101,7 +101,7 @@ module _ (old new : classic_reading.Reading) where
   classic_kept : new ≡ old → KeepsOn (Classic old) (Classic new)
   classic_kept same = keeps_same (Classic old) (Classic new) (ap Classic same)
 
-  pub classic_packet : (link : Link) → classic.link_of old ≡ Some link → (p : packet.Packet) → classic.Moved old new (cap.Packet p) → Tells (cap.Packet p) → classic.held new ≡ classic.held old
+  pub classic_packet : (link : Layer) → classic.link_of old ≡ Some link → (p : packet.Packet) → classic.Moved old new (cap.Packet p) → Tells (cap.Packet p) → classic.held new ≡ classic.held old
       → Leaves (Classic old) (Classic new) (Packet link p)
   classic_packet link linked p moved tells kept = (
     (moved.4, moved.6),
@@ -133,7 +133,7 @@ module _ (old new : classic_reading.Reading) where
           inr (not_ng-behind octets more stands.1 stands.0, record { link = classic.link_of old; entries = entries; reads = told.1.3 more; are = is })
 
   -- the head was passed
-  pub classic_head : (link : Link) → classic.Moved old new (cap.Head link) → Tells (cap.Head link)
+  pub classic_head : (link : Layer) → classic.Moved old new (cap.Head link) → Tells (cap.Head link)
       → (fed (Classic new) ≡ fed (Classic old)) × (length (pending (Classic new)) ≤ length (pending (Classic old))) × KeepsOn (Classic old) (Classic new)
   classic_head link moved tells = (omega (arith, moved.0, moved.2), omega (arith, moved.2), keeps)
     where
@@ -147,22 +147,22 @@ module _ (old new : classic_reading.Reading) where
           (stands.0, stands.1, (entries, told.1.1, before ∙ sym behind))
 
   -- no head behind the head
-  pub no_head : (link other : Link) → classic.link_of old ≡ Some link → classic.Moved old new (cap.Head other) → ⊥
+  pub no_head : (link other : Layer) → classic.link_of old ≡ Some link → classic.Moved old new (cap.Head other) → ⊥
   no_head link other linked moved =
-      let wrong : ◌≡◌ {A = Option Link} (Some link) None = sym linked ∙ ap link_by moved.3 in
+      let wrong : ◌≡◌ {A = Option Layer} (Some link) None = sym linked ∙ ap link_by moved.3 in
       absurd (cc)
 
   -- what a step of the form's reader leaves
   abbrev pub ClassicLeaves : CapStep → Type 0
   ClassicLeaves step = classic.Moved old new step × Tells step × classic.SaysFault old step × (classic.held new ≡ classic.held old)
 
-  abbrev pub ClassicGives : Link → CapStep → Type 0
+  abbrev pub ClassicGives : Layer → CapStep → Type 0
   ClassicGives link (cap.Packet p) = Leaves (Classic old) (Classic new) (Packet link p)
   ClassicGives link cap.More = Leaves (Classic old) (Classic new) More
   ClassicGives link (cap.Bad at f) = Leaves (Classic old) (Classic new) (Bad at f)
   ClassicGives link (cap.Head other) = ⊥
 
-  pub classic_step : (link : Link) → classic.link_of old ≡ Some link → (step : CapStep) → ClassicLeaves step → ClassicGives link step
+  pub classic_step : (link : Layer) → classic.link_of old ≡ Some link → (step : CapStep) → ClassicLeaves step → ClassicGives link step
   classic_step link linked (cap.Packet p) leaves = classic_packet link linked p leaves.0 leaves.1 leaves.3
   classic_step link linked cap.More leaves = classic_more leaves.0
   classic_step link linked (cap.Bad at f) leaves = classic_bad at f leaves.0 leaves.1
@@ -180,7 +180,7 @@ module _ (old new : ng_reading.Reading) (same : ng_reading.fed new ≡ ng_readin
       let all : taken ++ ng.packet_shown step ≡ taken = ap (λ xs. taken ++ xs) none ∙ append-nil taken in
       (stands.0, subst (ng.Stands new octets) all (tells octets taken stands.1).0)
 
-  pub ng_packet : (link : Link) (p : packet.Packet) → ng.Rested new (ng_step.Packet link p) → NgTells (ng_step.Packet link p) → Leaves (Ng old) (Ng new) (Packet link p)
+  pub ng_packet : (link : Layer) (p : packet.Packet) → ng.Rested new (ng_step.Packet link p) → NgTells (ng_step.Packet link p) → Leaves (Ng old) (Ng new) (Packet link p)
   ng_packet link p rested tells = (rested, same, less, (λ octets taken stands. ((stands.0, (tells octets taken stands.1).0), tt)), kept)
 
   pub ng_more : ng.Rested new ng_step.More → NgTells ng_step.More → Leaves (Ng old) (Ng new) More

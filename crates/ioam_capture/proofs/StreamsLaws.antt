@@ -3,7 +3,7 @@ use Rattle.std.proofs.Common.{◌≡◌, ℕ, ◌⊎◌, Bool, true, false, List
 use Rattle.std.proofs.lemmas.List.{append-nil, append_cancel_left}
 use Rattle.ioam_pcap.specs.declared.capture.CapFault.{CapFault}
 use Rattle.ioam_pcap.specs.declared.capture.Packet as packet
-use Rattle.ioam_pcap.specs.declared.form.Link.{Link}
+use Rattle.ioam_ip.specs.declared.layer.Layer.{Layer}
 use Rattle.ioam_pcap.specs.Ending.{Ending, Faulty, stays}
 use Rattle.ioam_pcap.specs.Entries.{Taken}
 use Rattle.ioam_capture.specs.declared.reader.Step.{Step}
@@ -106,7 +106,7 @@ module _ (octets : List ℕ) (ended : Bool) (taken : List Taken) (stream : Strea
 
   -- where a record is due a step that has memory gives it, with its time
   pub due-packet : (new : Reading) (s : Step) (time : ℕ) → due_of stream ≡ Record time → Told octets taken new s → (s ≡ step.NoMemory → ⊥)
-      → (link : Link) × (p : packet.Packet) × (s ≡ step.Packet link p) × (p.time ≡ time)
+      → (link : Layer) × (p : packet.Packet) × (s ≡ step.Packet link p) × (p.time ≡ time)
   due-packet new (step.Packet link p) time due told room =
       let took = Streams-take new (taken_of link p) told.0 in
       let (t, ts, is) = due_first stream.records stream.ending time due in

@@ -4,8 +4,8 @@ use Rattle.std.specs.Prelude.{◌≡◌, ℕ, zero, suc, ⊤, List, [], ◌∷�
 use Rattle.ioam_base.specs.Leads.{Leads}
 use Rattle.ioam_pcap.specs.Ending.{Ending, Whole, Faulty}
 use Rattle.ioam_pcap.specs.Entries.{Entry, Taken}
-use Rattle.ioam_pcap.specs.declared.form.Link.{Link}
-use Rattle.ioam_pcap.specs.declared.form.Link.TheVariants.{Raw}
+use Rattle.ioam_ip.specs.declared.layer.Layer.{Layer}
+use Rattle.ioam_ip.specs.declared.layer.Layer.TheVariants.{Raw}
 use Rattle.ioam_capture.specs.Turn.{turn_of}
 use Rattle.ioam_capture.specs.declared.turns.Due.{Due}
 use Rattle.ioam_capture.specs.declared.turns.Due.TheVariants.{Record, End, Bad, More}
@@ -38,7 +38,7 @@ turn streams = turn_of (map due_of streams)
 -- begin at, and itself
 pub record Arrival : Type 0 where
   pub capture : ℕ
-  pub link : Link
+  pub link : Layer
   pub entry : Entry
 
 -- the capture at a place, and its first record; past the end, or without a record, an empty one

@@ -10,7 +10,7 @@ use Rattle.ioam_pcap.specs.Reading as classic_reading
 use Rattle.ioam_pcap.specs.Reader as classic
 use Rattle.ioam_pcap.specs.declared.capture.CapFault.{CapFault}
 use Rattle.ioam_pcap.specs.declared.capture.Packet as packet
-use Rattle.ioam_pcap.specs.declared.form.Link.{Link}
+use Rattle.ioam_ip.specs.declared.layer.Layer.{Layer}
 use Rattle.ioam_ng.specs.contracts.reader.NgReader as ng_row
 use Rattle.ioam_ng.specs.Reading as ng_reading
 use Rattle.ioam_ng.specs.Reader as ng
@@ -53,7 +53,7 @@ IsFace (Classic reader) = ⊥
 IsFace (Ng reader) = ng.IsFace reader
 
 -- what a record that is given says
-abbrev pub taken_of : Link → packet.Packet → Taken
+abbrev pub taken_of : Layer → packet.Packet → Taken
 taken_of link p = record { link = link; entry = record { time = p.time; original = p.original; octets = p.octets.now } }
 
 -- the record that a step gives, where it gives one

@@ -5,7 +5,7 @@ use Rattle.ioam_base.specs.Octets.{u32_at}
 use Rattle.ioam_pcap.specs.Ending.{Ending}
 use Rattle.ioam_pcap.specs.Entries.{Entry, Taken}
 use Rattle.ioam_pcap.specs.Reads as classic
-use Rattle.ioam_pcap.specs.declared.form.Link.{Link}
+use Rattle.ioam_ip.specs.declared.layer.Layer.{Layer}
 use Rattle.ioam_ng.specs.Reads as ng
 
 -- the capture is of the form pcapng: it begins with the type of a section block
@@ -13,13 +13,13 @@ abbrev pub IsNg : List ℕ → Type 0
 IsNg octets = (4 ≤ length octets) × (u32_at octets 0 ≡ 0x0a0d0d0a)
 
 -- the records of a capture whose head says one link for all; without a head there are none
-abbrev pub of_link : Option Link → List Entry → List Taken
+abbrev pub of_link : Option Layer → List Entry → List Taken
 of_link None entries = []
 of_link (Some link) entries = map (λ entry. record { link = link; entry = entry }) entries
 
 -- the octets of the classic form read as these records, and end so
 pub record IsClassicly (octets : List ℕ) (taken : List Taken) (ending : Ending) : Type 0 where
-  pub link : Option Link
+  pub link : Option Layer
   pub entries : List Entry
   pub reads : classic.Reads octets link entries ending
   pub are : taken ≡ of_link link entries

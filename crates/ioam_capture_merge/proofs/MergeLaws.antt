@@ -10,7 +10,7 @@ use Rattle.ioam_pcap.specs.Ending.{Ending, Whole, Faulty, stays}
 use Rattle.ioam_pcap.specs.Entries.{Taken}
 use Rattle.ioam_pcap.specs.declared.capture.CapFault.{CapFault}
 use Rattle.ioam_pcap.specs.declared.capture.Packet as packet
-use Rattle.ioam_pcap.specs.declared.form.Link.{Link}
+use Rattle.ioam_ip.specs.declared.layer.Layer.{Layer}
 use Rattle.ioam_capture.specs.Merge.{Stream, due_by, due_of, turn, Arrival, arrival, arrival_of, first_of, of_capture, rest_by, rest, without_first, Takes, IsNext}
 use Rattle.ioam_capture.specs.Reader.{IsDue as IsDueOf, IsFed as IsFedOf, KeepsOn, Stands, Told}
 use Rattle.ioam_capture.specs.Reading.{HoldsFew, Reading, fed as fed_of, pending}
@@ -479,7 +479,7 @@ module _ (n : ℕ) (fed : ℕ → List ℕ) (ended : ℕ → Bool) (taken : List
 
   -- the next step of its reader gives a packet, or wants memory
   pub comes_packet : (new : Reading) (step : Step) → ((octets : List ℕ) (given : List Taken) → Stands capture.reader octets given → Told octets given new step)
-      → (step ≡ NoMemory → ⊥) → (l : Link) × (p : packet.Packet) × (step ≡ Packet l p)
+      → (step ≡ NoMemory → ⊥) → (l : Layer) × (p : packet.Packet) × (step ≡ Packet l p)
   comes_packet new step told ample =
       let (s, at, shows) = stream_there n fed ended taken comes.merging.begins place comes.inside in
       let (t, here, due) = Next-due now place time comes.next in
