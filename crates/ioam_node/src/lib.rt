@@ -8,7 +8,7 @@ mod choosing;
 mod place;
 mod reason;
 
-pub use admission::admit;
+pub use admission::{admit, admit_in_layer};
 pub use answer::Admit;
 pub use choosing::{begin, exit, transit};
 pub use place::Place;
