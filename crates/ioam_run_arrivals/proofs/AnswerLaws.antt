@@ -2,6 +2,7 @@
 use Rattle.std.proofs.Common.{◌≡◌, ℕ, ◌≤◌, Bool, List, length, Option, Some, None, IsSomeAnd, refl, sym, subst, ap, arith}
 use Rattle.std.specs.Prelude.{⊤}
 use Rattle.ioam_clock.specs.declared.sample.Sample.{Sample}
+use Rattle.ioam_ip.specs.declared.layer.Layer.{Layer}
 use Rattle.ioam_run_texts.specs.Framing.{Framing, Holds, NoIpv6, CutShort, TooShort, framing_of}
 use Rattle.ioam_run_texts.proofs.WithinLaws.{Within, framing-within}
 use Rattle.ioam_node.specs.Admission.{Admits, packet_of}
@@ -31,11 +32,11 @@ admits-within domain node size TooShort (admit.Enclose flow kept limit) few admi
 admits-within domain node size TooShort (admit.Drop reason) few admits = omega arith
 
 -- the packet that is taken in has no more octets than its frame
-pub answer-within : (domain : Domain) (at : Option Port) (ethernet cut : Bool) (frame : List ℕ) (answer : Admit)
-    → IsSomeAnd at (λ port. Admits domain port.node.0 (framing_of ethernet cut frame) answer) → length (packet_of answer) ≤ length frame
-answer-within domain (Some port) ethernet cut frame answer admits =
-    admits-within domain port.node.0 (length frame) (framing_of ethernet cut frame) answer (framing-within ethernet cut frame (length frame) (omega arith)) admits
-answer-within domain None ethernet cut frame answer admits = absurd admits
+pub answer-within : (domain : Domain) (at : Option Port) (layer : Layer) (cut : Bool) (frame : List ℕ) (answer : Admit)
+    → IsSomeAnd at (λ port. Admits domain port.node.0 (framing_of layer cut frame) answer) → length (packet_of answer) ≤ length frame
+answer-within domain (Some port) layer cut frame answer admits =
+    admits-within domain port.node.0 (length frame) (framing_of layer cut frame) answer (framing-within layer cut frame (length frame) (omega arith)) admits
+answer-within domain None layer cut frame answer admits = absurd admits
 
 -- what is dropped on arrival doesn't leave
 abbrev pub DropsAlike : Admit → End → Type 0

@@ -96,7 +96,7 @@ fate-clean domain readings earlier frame fate has port =
     let at : Option Port = slice_get (ports domain) frame.port.0 in
     subst (λ (packet : List ℕ). All (Sends MayLeave) (sent_by_end port (leaves_by packet fate.itinerary.visits fate.itinerary.exited fate.itinerary.carried) fate.itinerary.end)) (sym has.packet)
     (sent-clean port has.answer fate.itinerary fate.itinerary.end
-    (answer-clean domain at (framing_of frame.ethernet cut frame.entry.octets) has.answer (framing-packet frame.ethernet cut frame.entry.octets) has.answered)
+    (answer-clean domain at (framing_of frame.layer cut frame.entry.octets) has.answer (framing-packet frame.layer cut frame.entry.octets) has.answered)
     (plan-drops domain readings earlier at frame.entry.time has.answer fate.itinerary (plans_of domain readings earlier frame fate has).1))
 
 -- every packet that leaves by a port has a whole chain and no IOAM option
@@ -134,7 +134,7 @@ fate-fits domain readings earlier frame fate has port =
       arith,
       has.short,
       ap (λ (packet : List ℕ). length packet) has.packet,
-      answer-within domain (slice_get (ports domain) frame.port.0) frame.ethernet (is_cut frame.entry) frame.entry.octets has.answer has.answered,
+      answer-within domain (slice_get (ports domain) frame.port.0) frame.layer (is_cut frame.entry) frame.entry.octets has.answer has.answered,
     )))
 
 all-fit : (domain : Domain) (readings : List (List Sample)) (earlier : List Itinerary) (frames : List Frame) (fates : List Fate)

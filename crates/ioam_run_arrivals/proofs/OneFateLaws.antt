@@ -1,6 +1,7 @@
 -- What becomes of an arrival is one thing only.
 use Rattle.std.proofs.Common.{◌≡◌, ℕ, Bool, IsSomeAnd, List, [], ◌∷◌, ◌++◌, length, arith, Option, Some, None, slice_get, refl, sym, ◌∙◌, ap, subst}
 use Rattle.ioam_clock.specs.declared.sample.Sample.{Sample}
+use Rattle.ioam_ip.specs.declared.layer.Layer.{Layer}
 use Rattle.ioam_run_texts.specs.Framing.{framing_of}
 use Rattle.ioam_node.specs.Admission.{Admits}
 use Rattle.ioam_node.specs.declared.answer.Admit.{Admit}
@@ -15,12 +16,12 @@ use Rattle.ioam_topo.specs.declared.parts.Port.{Port}
 use Rattle.ioam_run_texts.specs.Fate.{Frame, Fate, HasFate, AreFates, AreFatesFrom, packet_of}
 use Rattle.ioam_run_texts.proofs.FateLaws.{plans_of}
 
-one_answer : (domain : Domain) (at : Option Port) (ethernet cut : Bool) (frame : List ℕ) (a b : Admit)
-    → IsSomeAnd at (λ port. Admits domain port.node.0 (framing_of ethernet cut frame) a)
-    → IsSomeAnd at (λ port. Admits domain port.node.0 (framing_of ethernet cut frame) b) → IsSame a b
-one_answer domain None ethernet cut frame a b first second = absurd first
-one_answer domain (Some port) ethernet cut frame a b first second =
-    Admits-unique domain port.node.0 (framing_of ethernet cut frame) a b first second
+one_answer : (domain : Domain) (at : Option Port) (layer : Layer) (cut : Bool) (frame : List ℕ) (a b : Admit)
+    → IsSomeAnd at (λ port. Admits domain port.node.0 (framing_of layer cut frame) a)
+    → IsSomeAnd at (λ port. Admits domain port.node.0 (framing_of layer cut frame) b) → IsSame a b
+one_answer domain None layer cut frame a b first second = absurd first
+one_answer domain (Some port) layer cut frame a b first second =
+    Admits-unique domain port.node.0 (framing_of layer cut frame) a b first second
 
 one_packet : (a b : Admit) → IsSame a b → packet_of a ≡ packet_of b
 one_packet (admit.Plain packet) (admit.Plain other) same = same
@@ -43,7 +44,7 @@ module _ (domain : Domain) (readings : List (List Sample)) where
   pub HasFate-unique : (earlier : List Itinerary) (frame : Frame) (fate other : Fate) → HasFate domain readings earlier frame fate
       → HasFate domain readings earlier frame other → fate ≡ other
   HasFate-unique earlier frame fate other first second =
-      let same : IsSame first.answer second.answer = one_answer domain (slice_get (ports domain) frame.port.0) frame.ethernet (is_cut frame.entry)
+      let same : IsSame first.answer second.answer = one_answer domain (slice_get (ports domain) frame.port.0) frame.layer (is_cut frame.entry)
       frame.entry.octets first.answer second.answer first.answered second.answered in
       let plans : fate.itinerary ≡ other.itinerary = Plans-same domain readings earlier frame.entry.time fate.itinerary other.itinerary frame.port
       first.answer second.answer same (plans_of domain readings earlier frame fate first) (plans_of domain readings earlier frame other second) in

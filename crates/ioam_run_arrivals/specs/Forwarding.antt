@@ -22,9 +22,9 @@ use Rattle.ioam_topo.specs.declared.domain.Domain.{Domain}
 use Rattle.ioam_run_arrivals.specs.declared.arriving.Arrival.{Arrival}
 use Rattle.ioam_run_arrivals.specs.declared.forwarding.Forwarding.{Forwarding}
 
--- an arrival by its port, its form and its record
+-- an arrival by its port, its layer and its record
 abbrev pub frame_of : Arrival → Frame
-frame_of arrival = record { port = arrival.port; ethernet = arrival.ethernet; entry = entry_of arrival.captured }
+frame_of arrival = record { port = arrival.port; layer = arrival.layer; entry = entry_of arrival.captured }
 
 -- sums, numbers and jobs are those of some arrivals in the domain
 pub record IsOf (domain : Domain) (gathered : Forwarding) : Type 0 where

@@ -10,19 +10,20 @@ ghost use Rattle.ioam_run_arrivals.specs.Adding.{IsAdded};
 use ioam_base::memory::NoMemory;
 use ioam_batch::Batch;
 use ioam_clock::Readings;
-use ioam_node::{Admit, admit};
+use ioam_ip::Layer;
+use ioam_node::{Admit, admit_in_layer};
 use ioam_pcap::Packet;
 use ioam_plan::{Counters, plan_in};
 use ioam_topo::{Domain, PortId};
 use std::alloc::Global;
 
-/// A packet that was captured at a port, and whether its frame begins with an Ethernet header.
+/// A packet that was captured at a port, and the layer that its frame begins at.
 #[derive(Clone, Copy)]
 pub struct Arrival<'a> {
     /// The port by which it comes.
     pub port: PortId,
-    /// Whether an Ethernet header stands in front of the packet.
-    pub ethernet: bool,
+    /// The layer that the frame begins at.
+    pub layer: Layer,
     /// What was captured of it, and when.
     pub captured: Packet<'a>,
 }
@@ -60,10 +61,10 @@ pub(crate) fn add_job(
     ensures as_before { IfErr result (λ _. batch.new.jobs ≡ batch.old.jobs) }
 {
     let captured = &arrival.captured;
-    let admitted = admit(
+    let admitted = admit_in_layer(
         domain,
         arrival.port,
-        arrival.ethernet,
+        arrival.layer,
         captured.is_cut(),
         captured.octets,
     );

@@ -1,6 +1,7 @@
 -- Laws of the arrivals that were taken.
 use Rattle.std.proofs.Common.{◌≡◌, ℕ, ◌+◌, ◌*◌, ◌++◌, false, List, [], ◌∷◌, length, sym, ◌∙◌, ap, subst, arith}
 use Rattle.ioam_clock.specs.declared.sample.Sample.{Sample}
+use Rattle.ioam_ip.specs.declared.layer.Layer.TheVariants.{Raw}
 use Rattle.ioam_run_arrivals.specs.Fate.{Frame}
 use Rattle.ioam_run_arrivals.specs.Texts.{texts_so_far}
 use Rattle.ioam_run_arrivals.specs.Forwarding.{Forwards, taken}
@@ -17,9 +18,9 @@ Takes-sums domain readings seed count gathered takes = record { fates = takes.to
 
 -- the packet of the state arrives next
 pub arrives : (seed k state time original : ℕ) (octets : List ℕ) → time ≡ k * 1000 → original ≡ length octets → octets ≡ packet state → state ≡ state_at seed k
-    → record { port = record { 0 = 0 }; ethernet = false; entry = record { time = time; original = original; octets = octets } } ≡ arrival seed k
+    → record { port = record { 0 = 0 }; layer = Raw; entry = record { time = time; original = original; octets = octets } } ≡ arrival seed k
 arrives seed k state time original octets when long is at =
-    let F : ℕ → ℕ → List ℕ → Frame = λ t n xs. record { port = record { 0 = 0 }; ethernet = false; entry = record { time = t; original = n; octets = xs } } in
+    let F : ℕ → ℕ → List ℕ → Frame = λ t n xs. record { port = record { 0 = 0 }; layer = Raw; entry = record { time = t; original = n; octets = xs } } in
     ap (λ (t : ℕ). F t original octets) when ∙ ap (λ (n : ℕ). F (k * 1000) n octets) long ∙ ap (λ (xs : List ℕ). F (k * 1000) (length xs) xs) (is ∙ ap packet at)
 
 pub Loads-next : (domain : Domain) (readings : List (List Sample)) (seed k : ℕ) (old new : Load) (frame : Frame)

@@ -1,5 +1,6 @@
 -- The arrivals of a generated run.
-use Rattle.std.specs.Prelude.{ℕ, zero, suc, ◌+◌, ◌*◌, ◌/◌, ◌%◌, ◌^◌, false, List, [], ◌∷◌, ◌++◌, length, replicate}
+use Rattle.std.specs.Prelude.{ℕ, zero, suc, ◌+◌, ◌*◌, ◌/◌, ◌%◌, ◌^◌, List, [], ◌∷◌, ◌++◌, length, replicate}
+use Rattle.ioam_ip.specs.declared.layer.Layer.TheVariants.{Raw}
 use Rattle.ioam_run_arrivals.specs.Fate.{Frame}
 use Rattle.ioam_pcap.specs.Entries.{Entry}
 
@@ -50,9 +51,9 @@ packet x = header x ++ replicate (payload_size x) 0
 abbrev pub whole_at : ℕ → List ℕ → Entry
 whole_at time octets = record { time = time; original = length octets; octets = octets }
 
--- an arrival, counted from 0: at the first port, without an Ethernet header, a microsecond behind the one before
+-- an arrival, counted from 0: at the first port, without a link header, a microsecond behind the one before
 abbrev pub arrival : ℕ → ℕ → Frame
-arrival seed k = record { port = record { 0 = 0 }; ethernet = false; entry = whole_at (k * 1000) (packet (state_at seed k)) }
+arrival seed k = record { port = record { 0 = 0 }; layer = Raw; entry = whole_at (k * 1000) (packet (state_at seed k)) }
 
 -- so many
 abbrev pub arrivals : ℕ → ℕ → List Frame

@@ -8,6 +8,7 @@ ghost use Rattle.ioam_run_bulk.specs.Load.{AreSums, IsSet, Loads};
 use crate::generator::{MOST_GENERATED, next_state, put_packet};
 use crate::terms::Terms;
 use ioam_base::memory::NoMemory;
+use ioam_ip::Layer;
 use ioam_pcap::Packet;
 use ioam_run_arrivals::{Arrival, Forwarding};
 use ioam_topo::{Domain, PortId};
@@ -72,7 +73,7 @@ fn take_next<F: Fn(&mut Forwarding)>(
     put_packet(load.state, &mut load.octets)?;
     let arrival = Arrival {
         port: PortId(0),
-        ethernet: false,
+        layer: Layer::Raw,
         captured: Packet {
             time: u64::from(number) * PAUSE,
             original: load.octets.len() as u32,

@@ -13,7 +13,6 @@ use Rattle.ioam_pcap.specs.Cut.{is_cut}
 use Rattle.ioam_run_stream.proofs.ShortLaws.{Reads-short}
 use Rattle.ioam_pcap.specs.Ending.{Whole, Faulty}
 use Rattle.ioam_pcap.specs.Entries.{Taken, most}
-use Rattle.ioam_pcap.specs.Link.{is_ethernet}
 use Rattle.ioam_desk_outputs.specs.Held.{HoldTexts}
 use Rattle.ioam_desk_outputs.specs.Names.{name_at}
 use Rattle.ioam_pcap.specs.Text.{Sends, IsSendable, IsCaptureOf}
@@ -41,7 +40,7 @@ kept_leaving [] [] are = tt
 kept_leaving [] (v ∷ vs) are = tt
 kept_leaving (t ∷ ts) [] are = tt
 kept_leaving (t ∷ ts) (Keeps kept ∷ vs) are =
-    (keeps_leaving kept (taken_framing t) (framing-packet (is_ethernet t.link) (is_cut t.entry) t.entry.octets) are.0, kept_leaving ts vs are.1)
+    (keeps_leaving kept (taken_framing t) (framing-packet t.link (is_cut t.entry) t.entry.octets) are.0, kept_leaving ts vs are.1)
 kept_leaving (t ∷ ts) (Drops reason ∷ vs) are = kept_leaving ts vs are.1
 
 -- what is kept of a frame has no more octets than it
@@ -60,7 +59,7 @@ kept_fitting [] [] are short = tt
 kept_fitting [] (v ∷ vs) are short = tt
 kept_fitting (t ∷ ts) [] are short = tt
 kept_fitting (t ∷ ts) (Keeps kept ∷ vs) are short = (
-  keeps_within kept most (taken_framing t) (framing-within (is_ethernet t.link) (is_cut t.entry) t.entry.octets most (All-head IsShort t ts short)) are.0,
+  keeps_within kept most (taken_framing t) (framing-within t.link (is_cut t.entry) t.entry.octets most (All-head IsShort t ts short)) are.0,
   kept_fitting ts vs are.1 (All-tail IsShort t ts short),
 )
 kept_fitting (t ∷ ts) (Drops reason ∷ vs) are short = kept_fitting ts vs are.1 (All-tail IsShort t ts short)

@@ -12,7 +12,6 @@ use Rattle.ioam_delay_traces.proofs.LightLaws.{shown_many, shown_weight, weight_
 use Rattle.ioam_ip.specs.Framing.{Framing, Holds, NoIpv6, CutShort, TooShort}
 use Rattle.ioam_ip.proofs.WithinLaws.{held-within}
 use Rattle.ioam_pcap.specs.Cut.{is_cut}
-use Rattle.ioam_pcap.specs.Link.{is_ethernet}
 use Rattle.ioam_run_stream.specs.Frame.{taken_framing}
 use Rattle.ioam_delay_traces.specs.Totals.{AreTotals, courses_of}
 use Rattle.ioam_desk_outputs.specs.Told.{said_more}
@@ -41,7 +40,7 @@ short_by : (units : ℕ) (t : Taken) (framing : Framing) (o : Observation) → f
     → length t.entry.octets ≤ 262144 → IsShort (traces_of o)
 short_by units t (Holds packet) None is shows size = none_short None refl
 short_by units t (Holds packet) (Some seen) is shows size =
-    let within = held-within (is_ethernet t.link) (is_cut t.entry) t.entry.octets packet is in
+    let within = held-within t.link (is_cut t.entry) t.entry.octets packet is in
     record {
       weight_is = omega (arith, ap (λ (all : List (Option Course)). weight (courses_of all)) shows.1, shown_weight units packet, within, size);
       many = omega (arith, ap (λ (all : List (Option Course)). length all) shows.1, shown_many units packet, within, size);

@@ -6,13 +6,13 @@ ghost use Rattle.ioam_ip.specs.Framing.{IfHolds};
 ghost use Rattle.ioam_ip.specs.Packet.{IsPacket};
 ghost use Rattle.ioam_run_stream.specs.Frame.{taken_framing};
 
-use ioam_ip::{Framed, packet_of};
-use ioam_pcap::{Link, Packet, is_ethernet};
+use ioam_ip::{Framed, packet_in_layer};
+use ioam_pcap::{Link, Packet};
 
 /// What a record of a capture gives, whose octets begin at this layer.
 pub fn framed<'a>(link: Link, captured: &Packet<'a>) -> Framed<'a>
     ensures framing { framing result ≡ taken_framing (taken_of link captured.now) }
     ensures packet { IfHolds (framing result) IsPacket }
 {
-    packet_of(is_ethernet(link), captured.is_cut(), captured.octets)
+    packet_in_layer(link, captured.is_cut(), captured.octets)
 }

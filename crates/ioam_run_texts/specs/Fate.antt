@@ -1,7 +1,8 @@
 -- What becomes of the arrivals of a domain.
-use Rattle.std.specs.Prelude.{◌≡◌, ℕ, ⊤, Bool, IsSomeAnd, List, [], ◌∷◌, ◌++◌, slice_get}
+use Rattle.std.specs.Prelude.{◌≡◌, ℕ, ⊤, IsSomeAnd, List, [], ◌∷◌, ◌++◌, slice_get}
 use Rattle.ioam_batch.specs.Sample.{Sample}
 use Rattle.ioam_ip.specs.Framing.{framing_of}
+use Rattle.ioam_ip.specs.declared.layer.Layer.{Layer}
 pub use Rattle.ioam_node_visit.specs.Admission.{packet_of}
 use Rattle.ioam_node_visit.specs.Admission.{Admits}
 use Rattle.ioam_node_visit.specs.Admit.{Admit}
@@ -14,10 +15,10 @@ use Rattle.ioam_topo.specs.Domain.{ports}
 use Rattle.ioam_topo.specs.declared.domain.Domain.{Domain}
 use Rattle.ioam_topo.specs.declared.ids.PortId.{PortId}
 
--- an arrival: the port, whether its frame begins with an Ethernet header, and its record
+-- an arrival: the port, the layer that its frame begins at, and its record
 pub record Frame : Type 0 where
   pub port : PortId
-  pub ethernet : Bool
+  pub layer : Layer
   pub entry : Entry
 
 -- what becomes of it: the packet that was taken in, and its itinerary
@@ -29,7 +30,7 @@ pub record Fate : Type 0 where
 -- octets than the frame had
 abbrev pub IsAnswered : Domain → Frame → Admit → Type 0
 IsAnswered domain frame answer = IsSomeAnd (slice_get (ports domain) frame.port.0)
-    (λ at. Admits domain at.node.0 (framing_of frame.ethernet (is_cut frame.entry) frame.entry.octets) answer)
+    (λ at. Admits domain at.node.0 (framing_of frame.layer (is_cut frame.entry) frame.entry.octets) answer)
 
 -- what becomes of an arrival behind these, by what is answered of it at its port and how its packet goes from there; its
 -- record has no more octets than one may have

@@ -6,7 +6,6 @@ use Rattle.ioam_capture.specs.Merge.{Arrival}
 use Rattle.ioam_clock.specs.declared.sample.Sample.{Sample}
 use Rattle.ioam_desk_outputs.specs.Told.{said_more}
 use Rattle.ioam_desk_outputs.specs.declared.output.Output.{Output}
-use Rattle.ioam_pcap.specs.Link.{is_ethernet}
 use Rattle.ioam_run_arrivals.specs.Fate.{Frame}
 use Rattle.ioam_run_arrivals.specs.Forwarding.{Forwards, has_room, taken as count_taken}
 use Rattle.ioam_run_arrivals.specs.Texts.{way_of}
@@ -53,19 +52,17 @@ module _ {F G : Type 0} (opens : Bool) (terms : Terms F G) (taken : List Arrival
   runs_few = omega (arith, runs_count, runs.few)
 
   -- one record more was taken, and waits
-  pub runs_take : (one : Arrival) (new : Forwarding) (port : PortId) (ethernet : Bool)
-      → port ≡ port_at terms.ports.now one.capture → ethernet ≡ is_ethernet one.link
+  pub runs_take : (one : Arrival) (new : Forwarding) (port : PortId) → port ≡ port_at terms.ports.now one.capture
       → ((opens : Bool) (frames : List Frame) (so_far : List (List ℕ)) → Forwards opens terms.domain.now terms.readings.now frames so_far gathered
-      → Forwards opens terms.domain.now terms.readings.now (frames ++ record { port = port; ethernet = ethernet; entry = one.entry } ∷ []) so_far new)
+      → Forwards opens terms.domain.now terms.readings.now (frames ++ record { port = port; layer = one.link; entry = one.entry } ∷ []) so_far new)
       → count_taken gathered < terms.domain.now.packets → IsTimely one → Runs opens terms (taken ++ one ∷ []) so_far new
-  runs_take one new port ethernet at link gathers room early =
+  runs_take one new port at gathers room early =
       let frames = frames_of terms.ports.now taken in
-      let P : PortId → Bool → Type 0 = λ p e.
-      Forwards opens terms.domain.now terms.readings.now (frames ++ record { port = p; ethernet = e; entry = one.entry } ∷ []) so_far new in
+      let P : PortId → Type 0 = λ p.
+      Forwards opens terms.domain.now terms.readings.now (frames ++ record { port = p; layer = one.link; entry = one.entry } ∷ []) so_far new in
       let Q : List Frame → Type 0 = λ fs. Forwards opens terms.domain.now terms.readings.now fs so_far new in
       record {
-        forwards = subst Q (sym (frames-push terms.ports.now taken one))
-            (subst (λ p. P p (is_ethernet one.link)) at (subst (λ e. P port e) link (gathers opens frames so_far runs.forwards)));
+        forwards = subst Q (sym (frames-push terms.ports.now taken one)) (subst P at (gathers opens frames so_far runs.forwards));
         few = omega (arith, room, runs_count, pushed taken one);
         timely = All-append IsTimely taken (one ∷ []) runs.timely (All-cons IsTimely one [] early (All-nil IsTimely));
       }

@@ -8,7 +8,6 @@ use Rattle.ioam_run_arrivals.specs.Texts.{texts_of}
 use Rattle.ioam_capture_merge.specs.Merging as merging
 use Rattle.ioam_capture_merge.specs.Merging.{FilesArrive, FilesBegin, PartsArrive, HaveEnded, start_of}
 use Rattle.ioam_desk_outputs.specs.Held.{HoldTexts, HoldFronts}
-use Rattle.ioam_pcap.specs.Link.{is_ethernet}
 use Rattle.ioam_capture.specs.Merge.{Arrival}
 use Rattle.ioam_capture.specs.declared.turns.Turn.{Turn}
 use Rattle.ioam_capture.specs.declared.turns.Turn.TheVariants as turn
@@ -27,7 +26,7 @@ port_at ports place = slice_index_or ports place (record { 0 = 0 })
 
 -- what arrives at its port with a record that was taken
 abbrev pub frame_of : List PortId → Arrival → Frame
-frame_of ports arrival = record { port = port_at ports arrival.capture; ethernet = is_ethernet arrival.link; entry = arrival.entry }
+frame_of ports arrival = record { port = port_at ports arrival.capture; layer = arrival.link; entry = arrival.entry }
 
 -- what arrives with each of some records that were taken
 abbrev pub frames_of : List PortId → List Arrival → List Frame

@@ -12,7 +12,6 @@ use crate::terms::Terms;
 use ioam_base::memory::NoMemory;
 use ioam_capture::{Due, Step, Turn};
 use ioam_capture_merge::Merge;
-use ioam_pcap::is_ethernet;
 use ioam_run_arrivals::{Arrival, Forwarding};
 use std::alloc::Global;
 
@@ -59,10 +58,9 @@ impl Progress {
         let capture = &mut self.merge.captures[place];
         match capture.reader.next() {
             Step::Packet { link, packet } => {
-                let ethernet = is_ethernet(link);
                 let arrival = Arrival {
                     port,
-                    ethernet,
+                    layer: link,
                     captured: packet,
                 };
                 self.gathered

@@ -12,7 +12,7 @@ use Rattle.ioam_run_arrivals.proofs.arriving.add_job.Goals as goal
 pub returns-clause-added : goal.returns-clause-added
 returns-clause-added c =
     let P : Bool → Type 0 = λ cut. IsSomeAnd (slice_get (ports c.args.domain.now) c.args.arrival.now.port.0)
-    (λ at. Admits c.args.domain.now at.node.0 (framing_of c.args.arrival.now.ethernet cut c.args.arrival.now.captured.octets.now) c.admit-admitted.result) in
+    (λ at. Admits c.args.domain.now at.node.0 (framing_of c.args.arrival.now.layer cut c.args.arrival.now.captured.octets.now) c.admit_in_layer-admitted.result) in
     let it = c.in_ok-itinerary.itinerary in
     let made = c.in_ok-make.ensures.made in (
       made.0,
@@ -24,8 +24,8 @@ returns-clause-added c =
         arrived = λ earlier counts. record {
           fate = record { packet = c.packet_of.result.now; itinerary = it };
           has = record {
-            answer = c.admit-admitted.result;
-            answered = subst P c.is_cut.ensures c.admit-admitted.ensures.admits;
+            answer = c.admit_in_layer-admitted.result;
+            answered = subst P c.is_cut.ensures c.admit_in_layer-admitted.ensures.admits;
             travels = c.in_ok-itinerary.ensures.travels earlier counts;
             packet = c.packet_of.ensures;
             short = c.requires.short;

@@ -48,5 +48,5 @@ returns-in-Packet-clause-takes g c = OnOk-map c.take.result _ _ c.take.ensures.g
     (λ octets given stands. (told.3 octets given stands).0) refl _ refl refl in (
       one,
       taken_so.0,
-      runs_take opens c.args.terms.now arrivals so_far c.args.self.now.gathered runs one c.take.new.self _ _ refl c.is_ethernet-ethernet.ensures more c.requires.few told.0.0,
+      runs_take opens c.args.terms.now arrivals so_far c.args.self.now.gathered runs one c.take.new.self _ refl more c.requires.few told.0.0,
     ))
