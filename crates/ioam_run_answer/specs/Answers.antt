@@ -1,5 +1,5 @@
 -- The exit status and the line of an answer.
-use Rattle.std.specs.Prelude.{ℕ, Bool, true, false, List, ◌++◌, codes, decimal}
+use Rattle.std.specs.Prelude.{ℕ, List, ◌++◌, codes, decimal}
 use Rattle.ioam_clock.specs.declared.fault.ReadWhy.{ReadWhy}
 use Rattle.ioam_clock.specs.declared.fault.ReadWhy.TheVariants as read
 use Rattle.ioam_clock.specs.declared.fault.ReadingsFault.{ReadingsFault}
@@ -14,8 +14,6 @@ use Rattle.ioam_pcap.specs.declared.capture.CapFault.TheVariants as fault
 use Rattle.ioam_topo_values.specs.declared.why.Why.{Why}
 use Rattle.ioam_topo_values.specs.declared.why.Why.TheVariants as why
 use Rattle.ioam_topo_entries.specs.declared.fault.DomainFault.{DomainFault}
-use Rattle.ioam_topo_entries.specs.declared.words.Field.{Field}
-use Rattle.ioam_topo_entries.specs.declared.words.Field.TheVariants as field
 use Rattle.ioam_topo_entries.specs.declared.words.Table.{Table}
 use Rattle.ioam_topo_entries.specs.declared.words.Table.TheVariants as table
 use Rattle.ioam_run_answer.specs.declared.outcome.Outcome.{Outcome}
@@ -49,67 +47,6 @@ table_text table.DataTable = codes "data"
 table_text table.FlowTable = codes "flow"
 table_text table.ExtraTable = codes "extra"
 
--- the word for the key of a domain file that is wrong
-abbrev pub field_text : Field → List ℕ
-field_text field.FormatKey = codes "format"
-field_text field.PacketsKey = codes "packets"
-field_text field.NameKey = codes "name"
-field_text field.IdKey = codes "id"
-field_text field.AddressKey = codes "address"
-field_text field.NamespacesKey = codes "namespaces"
-field_text field.FromKey = codes "from"
-field_text field.ToKey = codes "to"
-field_text field.OutIdKey = codes "out_id"
-field_text field.InIdKey = codes "in_id"
-field_text field.DelayKey = codes "delay"
-field_text field.MtuKey = codes "mtu"
-field_text field.TapKey = codes "tap"
-field_text field.NodeKey = codes "node"
-field_text field.InKey = codes "in"
-field_text field.OutKey = codes "out"
-field_text field.PrefixKey = codes "prefix"
-field_text field.LinkKey = codes "link"
-field_text field.PortKey = codes "port"
-field_text field.NamespaceKey = codes "namespace"
-field_text field.ShortKey = codes "short"
-field_text field.WideKey = codes "wide"
-field_text field.SchemaKey = codes "schema"
-field_text field.SnapshotKey = codes "snapshot"
-field_text field.EntryKey = codes "entry"
-field_text field.ExitKey = codes "exit"
-field_text field.SourceKey = codes "source"
-field_text field.TargetKey = codes "target"
-field_text field.HopsKey = codes "hops"
-field_text field.LabelKey = codes "label"
-field_text field.TraceKey = codes "trace"
-field_text field.CapacityKey = codes "capacity"
-field_text field.EdgeKey = codes "edge"
-field_text field.DirectKey = codes "direct"
-field_text field.EveryKey = codes "every"
-field_text field.FlowIdKey = codes "flow_id"
-field_text field.LimitKey = codes "limit"
-field_text field.FlowKey = codes "flow"
-field_text field.OtherKey = codes "other"
-field_text field.NoKey = codes "-"
-
--- whether a key is one that flows alone have
-abbrev pub is_flow_key : Field → Bool
-is_flow_key field.EntryKey = true
-is_flow_key field.ExitKey = true
-is_flow_key field.SourceKey = true
-is_flow_key field.TargetKey = true
-is_flow_key field.HopsKey = true
-is_flow_key field.LabelKey = true
-is_flow_key field.TraceKey = true
-is_flow_key field.CapacityKey = true
-is_flow_key field.EdgeKey = true
-is_flow_key field.DirectKey = true
-is_flow_key field.EveryKey = true
-is_flow_key field.FlowIdKey = true
-is_flow_key field.LimitKey = true
-is_flow_key field.FlowKey = true
-is_flow_key _ = false
-
 -- the word for why it is wrong
 abbrev pub why_text : Why → List ℕ
 why_text why.Text = codes "text"
@@ -131,7 +68,7 @@ read_why_text read.Order = codes "order"
 
 -- the line for a fault of a domain file: its table, its place, its key and why
 abbrev pub domain_text : DomainFault → List ℕ
-domain_text fault = codes "domain " ++ table_text fault.table ++ codes " " ++ decimal fault.place ++ codes " " ++ field_text fault.field
+domain_text fault = codes "domain " ++ table_text fault.table ++ codes " " ++ decimal fault.place ++ codes " " ++ fault.field
     ++ codes " " ++ why_text fault.why
 
 -- the line for a fault of readings: the line's number and why

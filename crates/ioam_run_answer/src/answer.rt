@@ -4,8 +4,7 @@ ghost use Rattle.ioam_run_answer.specs.Answers.{status_of, line_text, domain_tex
 
 use crate::outcome::Outcome;
 use crate::words::{
-    FaultWord, capture_word, export_word, field_text, ipfix_word, read_why_text, table_text,
-    why_text,
+    FaultWord, capture_word, export_word, ipfix_word, read_why_text, table_text, why_text,
 };
 use ioam_base::memory::NoMemory;
 use ioam_clock::ReadingsFault;
@@ -89,7 +88,7 @@ fn domain_line(alloc: Global, fault: &DomainFault) -> Result<String, NoMemory>
         "domain {} {} {} {}",
         table_text(fault.table),
         fault.place,
-        field_text(fault.field),
+        fault.field.0,
         why_text(fault.why)
     )?)
 }

@@ -1,12 +1,12 @@
 //! The words for faults.
-ghost use Rattle.std.specs.Prelude.{◌≡◌, ◌++◌, codes, decimal, true};
-ghost use Rattle.ioam_run_answer.specs.Answers.{table_text, field_text, is_flow_key, why_text, read_why_text, fault_text, export_text, ipfix_text};
+ghost use Rattle.std.specs.Prelude.{◌≡◌, ◌++◌, codes, decimal};
+ghost use Rattle.ioam_run_answer.specs.Answers.{table_text, why_text, read_why_text, fault_text, export_text, ipfix_text};
 
 use ioam_clock::ReadWhy;
 use ioam_dex::ExportFault;
 use ioam_ipfix::IpfixFault;
 use ioam_pcap::CapFault;
-use ioam_topo_entries::{Field, Table, Why};
+use ioam_topo_entries::{Table, Why};
 
 /// The word for a table of the domain file.
 pub fn table_text(table: Table) -> &'static str
@@ -21,65 +21,6 @@ pub fn table_text(table: Table) -> &'static str
         Table::DataTable => "data",
         Table::FlowTable => "flow",
         Table::ExtraTable => "extra",
-    }
-}
-
-/// The word for a key: the key itself, `other` for one that isn't listed, `-` for none.
-pub fn field_text(field: Field) -> &'static str
-    ensures { result.now ≡ field_text field }
-{
-    match field {
-        Field::FormatKey => "format",
-        Field::PacketsKey => "packets",
-        Field::NameKey => "name",
-        Field::IdKey => "id",
-        Field::AddressKey => "address",
-        Field::NamespacesKey => "namespaces",
-        Field::FromKey => "from",
-        Field::ToKey => "to",
-        Field::OutIdKey => "out_id",
-        Field::InIdKey => "in_id",
-        Field::DelayKey => "delay",
-        Field::MtuKey => "mtu",
-        Field::TapKey => "tap",
-        Field::NodeKey => "node",
-        Field::InKey => "in",
-        Field::OutKey => "out",
-        Field::PrefixKey => "prefix",
-        Field::LinkKey => "link",
-        Field::PortKey => "port",
-        Field::NamespaceKey => "namespace",
-        Field::ShortKey => "short",
-        Field::WideKey => "wide",
-        Field::SchemaKey => "schema",
-        Field::SnapshotKey => "snapshot",
-        Field::OtherKey => "other",
-        Field::NoKey => "-",
-        flow_key => flow_key_text(flow_key),
-    }
-}
-
-// The word for a key that flows and their extra traces alone have.
-fn flow_key_text(field: Field) -> &'static str
-    requires { is_flow_key field ≡ true }
-    ensures { result.now ≡ field_text field }
-{
-    match field {
-        Field::EntryKey => "entry",
-        Field::ExitKey => "exit",
-        Field::SourceKey => "source",
-        Field::TargetKey => "target",
-        Field::HopsKey => "hops",
-        Field::LabelKey => "label",
-        Field::TraceKey => "trace",
-        Field::CapacityKey => "capacity",
-        Field::EdgeKey => "edge",
-        Field::DirectKey => "direct",
-        Field::EveryKey => "every",
-        Field::FlowIdKey => "flow_id",
-        Field::LimitKey => "limit",
-        Field::FlowKey => "flow",
-        _ => unreachable!(),
     }
 }
 

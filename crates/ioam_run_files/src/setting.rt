@@ -30,7 +30,7 @@ pub struct Setting {
 }
 
 /// Why there is no setting. DOMAIN is opened, read and judged before READINGS is opened.
-#[derive(Clone, Copy, Debug, PartialEq, Eq)]
+#[derive(Debug, Drop)]
 pub enum Refusal {
     /// The domain file is faulty: its first fault.
     Domain(DomainFault),

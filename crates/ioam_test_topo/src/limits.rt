@@ -48,21 +48,21 @@ fn is_refused(
 
 // Whether a name has 32 letters at most.
 fn has_names_of_32(alloc: Global) -> bool {
-    let wanted = "table: NodeTable, place: 1, field: NameKey, why: Range";
+    let wanted = "table: NodeTable, place: 1, field: Field(\"name\"), why: Range";
     is_read(alloc, BEFORE_NAME, "a", 32, BEHIND_NAME)
         && is_refused(alloc, BEFORE_NAME, "a", 33, BEHIND_NAME, wanted)
 }
 
 // Whether the name of a file has 255 octets at most.
 fn has_outs_of_255(alloc: Global) -> bool {
-    let wanted = "table: PortTable, place: 1, field: OutKey, why: Range";
+    let wanted = "table: PortTable, place: 1, field: Field(\"out\"), why: Range";
     is_read(alloc, BEFORE_OUT, "/", 255, BEHIND_OUT)
         && is_refused(alloc, BEFORE_OUT, "/", 256, BEHIND_OUT, wanted)
 }
 
 // Whether a file has 1 MiB at most: files of comments.
 fn has_files_of_1_mib(alloc: Global) -> bool {
-    let wanted = "table: Top, place: 0, field: NoKey, why: Long";
+    let wanted = "table: Top, place: 0, field: Field(\"-\"), why: Long";
     is_read(alloc, "", COMMENT, 65_536, "") && is_refused(alloc, "#", COMMENT, 65_536, "", wanted)
 }
 
@@ -96,7 +96,7 @@ fn are_tapped(alloc: Global, count: u32) -> bool {
 
 // Whether so many links have a tap too many.
 fn are_too_many(alloc: Global, count: u32) -> bool {
-    let wanted = "table: LinkTable, place: 65, field: TapKey, why: TooMany";
+    let wanted = "table: LinkTable, place: 65, field: Field(\"tap\"), why: TooMany";
     match tapped(alloc, count) {
         Ok(file) => has_fault(alloc, file.as_str(), wanted),
         Err(NoMemory) => false,

@@ -17,39 +17,39 @@ const DATA: &str = "data = [
 
 // Each row is a fault, and behind ` # ` node data of two nodes of which it is the first.
 pub(crate) const OF_DATA: &str =
-    "table: DataTable, place: 1, field: OtherKey, why: Unknown # data = [{ colour = 1 }]|\
-table: DataTable, place: 1, field: OtherKey, why: Unknown # data = [{ node = 1, namespaces = [7] }]|\
-table: DataTable, place: 1, field: NodeKey, why: Missing # data = [{ namespace = -1 }]|\
-table: DataTable, place: 1, field: NodeKey, why: Kind # data = [{ node = 1 }]|\
-table: DataTable, place: 1, field: NodeKey, why: Range # data = [{ node = \"a b\" }]|\
-table: DataTable, place: 1, field: NodeKey, why: Unknown # data = [{ node = \"c\", namespace = 7 }, { node = \"c\", namespace = 7 }]|\
-table: DataTable, place: 1, field: NamespaceKey, why: Missing # data = [{ node = \"a\", short = -1 }]|\
-table: DataTable, place: 1, field: NamespaceKey, why: Kind # data = [{ node = \"a\", namespace = [7] }]|\
-table: DataTable, place: 1, field: NamespaceKey, why: Range # data = [{ node = \"a\", namespace = -1 }]|\
-table: DataTable, place: 1, field: NamespaceKey, why: Range # data = [{ node = \"a\", namespace = 65536 }]|\
-table: DataTable, place: 2, field: NamespaceKey, why: Twice # data = [{ node = \"a\", namespace = 7 }, { node = \"a\", namespace = 7, short = -1 }]|\
-table: DataTable, place: 4, field: NamespaceKey, why: Twice # data = [{ node = \"a\", namespace = 7 }, { node = \"b\", namespace = 7 }, { node = \"a\", namespace = 8 }, { node = \"b\", namespace = 7 }]|\
-table: DataTable, place: 1, field: ShortKey, why: Kind # data = [{ node = \"a\", namespace = 7, short = \"1\" }]|\
-table: DataTable, place: 1, field: ShortKey, why: Range # data = [{ node = \"a\", namespace = 7, short = -1 }]|\
-table: DataTable, place: 1, field: ShortKey, why: Range # data = [{ node = \"a\", namespace = 7, short = 4294967296 }]|\
-table: DataTable, place: 1, field: WideKey, why: Kind # data = [{ node = \"a\", namespace = 7, wide = 1.0 }]|\
-table: DataTable, place: 1, field: WideKey, why: Range # data = [{ node = \"a\", namespace = 7, wide = -1 }]|\
-table: Top, place: 0, field: NoKey, why: Text # data = [{ node = \"a\", namespace = 7, wide = 9223372036854775808 }]|\
-table: DataTable, place: 1, field: SchemaKey, why: Missing # data = [{ node = \"a\", namespace = 7, snapshot = \"\" }]|\
-table: DataTable, place: 1, field: SchemaKey, why: Kind # data = [{ node = \"a\", namespace = 7, schema = \"1\" }]|\
-table: DataTable, place: 1, field: SchemaKey, why: Range # data = [{ node = \"a\", namespace = 7, schema = -1 }]|\
-table: DataTable, place: 1, field: SchemaKey, why: Range # data = [{ node = \"a\", namespace = 7, schema = 16777215, snapshot = \"\" }]|\
-table: DataTable, place: 1, field: SnapshotKey, why: Missing # data = [{ node = \"a\", namespace = 7, schema = 1 }]|\
-table: DataTable, place: 1, field: SnapshotKey, why: Kind # data = [{ node = \"a\", namespace = 7, schema = 1, snapshot = 1 }]|\
-table: DataTable, place: 1, field: SnapshotKey, why: Range # data = [{ node = \"a\", namespace = 7, schema = 1, snapshot = \"0123456789ab\" }]|\
-table: DataTable, place: 1, field: SnapshotKey, why: Range # data = [{ node = \"a\", namespace = 7, schema = 1, snapshot = \"0123456g\" }]|\
-table: DataTable, place: 1, field: SnapshotKey, why: Range # data = [{ node = \"a\", namespace = 7, schema = 1, snapshot = \"0x012345\" }]|\
-table: DataTable, place: 1, field: SchemaKey, why: Missing # data = [{ node = \"a\", namespace = 7, snapshot = 1 }]|\
-table: DataTable, place: 1, field: ShortKey, why: Range # data = [{ wide = -1, short = -1, namespace = 7, node = \"a\" }]|\
-table: DataTable, place: 1, field: ShortKey, why: Range # data = [{ node = \"a\", namespace = 7, short = -1, wide = -1 }]|\
-table: DataTable, place: 1, field: WideKey, why: Range # data = [{ node = \"a\", namespace = 7, wide = -1 }, { node = \"c\" }]|\
-table: DataTable, place: 1, field: NodeKey, why: Unknown # data = [{ node = \"c\" }, { node = \"a\", namespace = 7, wide = -1 }]|\
-table: DataTable, place: 1, field: NodeKey, why: Missing # flow = 1\ndata = [{}]";
+    "table: DataTable, place: 1, field: Field(\"other\"), why: Unknown # data = [{ colour = 1 }]|\
+table: DataTable, place: 1, field: Field(\"other\"), why: Unknown # data = [{ node = 1, namespaces = [7] }]|\
+table: DataTable, place: 1, field: Field(\"node\"), why: Missing # data = [{ namespace = -1 }]|\
+table: DataTable, place: 1, field: Field(\"node\"), why: Kind # data = [{ node = 1 }]|\
+table: DataTable, place: 1, field: Field(\"node\"), why: Range # data = [{ node = \"a b\" }]|\
+table: DataTable, place: 1, field: Field(\"node\"), why: Unknown # data = [{ node = \"c\", namespace = 7 }, { node = \"c\", namespace = 7 }]|\
+table: DataTable, place: 1, field: Field(\"namespace\"), why: Missing # data = [{ node = \"a\", short = -1 }]|\
+table: DataTable, place: 1, field: Field(\"namespace\"), why: Kind # data = [{ node = \"a\", namespace = [7] }]|\
+table: DataTable, place: 1, field: Field(\"namespace\"), why: Range # data = [{ node = \"a\", namespace = -1 }]|\
+table: DataTable, place: 1, field: Field(\"namespace\"), why: Range # data = [{ node = \"a\", namespace = 65536 }]|\
+table: DataTable, place: 2, field: Field(\"namespace\"), why: Twice # data = [{ node = \"a\", namespace = 7 }, { node = \"a\", namespace = 7, short = -1 }]|\
+table: DataTable, place: 4, field: Field(\"namespace\"), why: Twice # data = [{ node = \"a\", namespace = 7 }, { node = \"b\", namespace = 7 }, { node = \"a\", namespace = 8 }, { node = \"b\", namespace = 7 }]|\
+table: DataTable, place: 1, field: Field(\"short\"), why: Kind # data = [{ node = \"a\", namespace = 7, short = \"1\" }]|\
+table: DataTable, place: 1, field: Field(\"short\"), why: Range # data = [{ node = \"a\", namespace = 7, short = -1 }]|\
+table: DataTable, place: 1, field: Field(\"short\"), why: Range # data = [{ node = \"a\", namespace = 7, short = 4294967296 }]|\
+table: DataTable, place: 1, field: Field(\"wide\"), why: Kind # data = [{ node = \"a\", namespace = 7, wide = 1.0 }]|\
+table: DataTable, place: 1, field: Field(\"wide\"), why: Range # data = [{ node = \"a\", namespace = 7, wide = -1 }]|\
+table: Top, place: 0, field: Field(\"-\"), why: Text # data = [{ node = \"a\", namespace = 7, wide = 9223372036854775808 }]|\
+table: DataTable, place: 1, field: Field(\"schema\"), why: Missing # data = [{ node = \"a\", namespace = 7, snapshot = \"\" }]|\
+table: DataTable, place: 1, field: Field(\"schema\"), why: Kind # data = [{ node = \"a\", namespace = 7, schema = \"1\" }]|\
+table: DataTable, place: 1, field: Field(\"schema\"), why: Range # data = [{ node = \"a\", namespace = 7, schema = -1 }]|\
+table: DataTable, place: 1, field: Field(\"schema\"), why: Range # data = [{ node = \"a\", namespace = 7, schema = 16777215, snapshot = \"\" }]|\
+table: DataTable, place: 1, field: Field(\"snapshot\"), why: Missing # data = [{ node = \"a\", namespace = 7, schema = 1 }]|\
+table: DataTable, place: 1, field: Field(\"snapshot\"), why: Kind # data = [{ node = \"a\", namespace = 7, schema = 1, snapshot = 1 }]|\
+table: DataTable, place: 1, field: Field(\"snapshot\"), why: Range # data = [{ node = \"a\", namespace = 7, schema = 1, snapshot = \"0123456789ab\" }]|\
+table: DataTable, place: 1, field: Field(\"snapshot\"), why: Range # data = [{ node = \"a\", namespace = 7, schema = 1, snapshot = \"0123456g\" }]|\
+table: DataTable, place: 1, field: Field(\"snapshot\"), why: Range # data = [{ node = \"a\", namespace = 7, schema = 1, snapshot = \"0x012345\" }]|\
+table: DataTable, place: 1, field: Field(\"schema\"), why: Missing # data = [{ node = \"a\", namespace = 7, snapshot = 1 }]|\
+table: DataTable, place: 1, field: Field(\"short\"), why: Range # data = [{ wide = -1, short = -1, namespace = 7, node = \"a\" }]|\
+table: DataTable, place: 1, field: Field(\"short\"), why: Range # data = [{ node = \"a\", namespace = 7, short = -1, wide = -1 }]|\
+table: DataTable, place: 1, field: Field(\"wide\"), why: Range # data = [{ node = \"a\", namespace = 7, wide = -1 }, { node = \"c\" }]|\
+table: DataTable, place: 1, field: Field(\"node\"), why: Unknown # data = [{ node = \"c\" }, { node = \"a\", namespace = 7, wide = -1 }]|\
+table: DataTable, place: 1, field: Field(\"node\"), why: Missing # flow = 1\ndata = [{}]";
 
 // A table as far as its first entry, its most entries, the fault of an entry without keys, and that
 // of one entry too many.
@@ -57,44 +57,44 @@ const ROOMS: [(&str, u16, &str, &str); 7] = [
     (
         "node = [",
         256,
-        "NodeTable, place: 1, field: NameKey, why: Missing",
-        "NodeTable, place: 0, field: NoKey, why: TooMany",
+        "NodeTable, place: 1, field: Field(\"name\"), why: Missing",
+        "NodeTable, place: 0, field: Field(\"-\"), why: TooMany",
     ),
     (
         "link = [",
         1024,
-        "LinkTable, place: 1, field: NameKey, why: Missing",
-        "LinkTable, place: 0, field: NoKey, why: TooMany",
+        "LinkTable, place: 1, field: Field(\"name\"), why: Missing",
+        "LinkTable, place: 0, field: Field(\"-\"), why: TooMany",
     ),
     (
         "port = [",
         64,
-        "PortTable, place: 1, field: NameKey, why: Missing",
-        "PortTable, place: 0, field: NoKey, why: TooMany",
+        "PortTable, place: 1, field: Field(\"name\"), why: Missing",
+        "PortTable, place: 0, field: Field(\"-\"), why: TooMany",
     ),
     (
         "route = [",
         16384,
-        "RouteTable, place: 1, field: NodeKey, why: Missing",
-        "RouteTable, place: 0, field: NoKey, why: TooMany",
+        "RouteTable, place: 1, field: Field(\"node\"), why: Missing",
+        "RouteTable, place: 0, field: Field(\"-\"), why: TooMany",
     ),
     (
         "data = [",
         4096,
-        "DataTable, place: 1, field: NodeKey, why: Missing",
-        "DataTable, place: 0, field: NoKey, why: TooMany",
+        "DataTable, place: 1, field: Field(\"node\"), why: Missing",
+        "DataTable, place: 0, field: Field(\"-\"), why: TooMany",
     ),
     (
         "flow = [",
         256,
-        "FlowTable, place: 1, field: NameKey, why: Missing",
-        "FlowTable, place: 0, field: NoKey, why: TooMany",
+        "FlowTable, place: 1, field: Field(\"name\"), why: Missing",
+        "FlowTable, place: 0, field: Field(\"-\"), why: TooMany",
     ),
     (
         "extra = [",
         512,
-        "ExtraTable, place: 1, field: FlowKey, why: Missing",
-        "ExtraTable, place: 0, field: NoKey, why: TooMany",
+        "ExtraTable, place: 1, field: Field(\"flow\"), why: Missing",
+        "ExtraTable, place: 0, field: Field(\"-\"), why: TooMany",
     ),
 ];
 
@@ -102,7 +102,7 @@ const ROOMS: [(&str, u16, &str, &str); 7] = [
 const SNAPSHOT: &str =
     "node = [{ name = \"a\", id = 1, address = \"::\" }]\ndata = [{ node = \"a\", namespace = 7, schema = 1, snapshot = \"";
 
-const LONG_SNAPSHOT: &str = "DataTable, place: 1, field: SnapshotKey, why: Range";
+const LONG_SNAPSHOT: &str = "DataTable, place: 1, field: Field(\"snapshot\"), why: Range";
 
 // The octets of the snapshot of the second node.
 const SPELLED: [u8; 12] = [

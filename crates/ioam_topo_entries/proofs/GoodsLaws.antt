@@ -36,6 +36,11 @@ fresh_new {A} same seen (Ok y) x is =
     let P : A → Type 0 = λ z. list_any (same z) seen ≡ false in subst P both.1 both.0
 fresh_new same seen (Err why) x is = cc
 
+-- and is what was read
+pub fresh_from : {A : Type 0} (same : A → A → Bool) (seen : List A) (r : Result A Why) (x : A) → r ▷ fresh same seen ≡ Ok x → r ≡ Ok x
+fresh_from same seen (Ok y) x is = ap Ok (fresh_under (list_any (same y) seen) y x (Ok y ▷ fresh same seen) refl is).1
+fresh_from same seen (Err why) x is = cc
+
 kept_all : {A : Type 0} (P : A → Type 0) (r : Result A Why) (xs : List A) → ((x : A) → r ≡ Ok x → P x) → All P xs → All P (kept r xs)
 kept_all P (Ok x) xs good all = All-cons P x xs (good x refl) all
 kept_all P (Err why) xs good all = all

@@ -4,3 +4,4 @@ pub mod GoodsLaws
 pub mod ReadLaws
 pub mod RowLaws
 pub mod TableLaws
+pub mod NumberLaws

@@ -6,9 +6,8 @@ use Rattle.ioam_topo_values.specs.declared.why.Why.{Why}
 use Rattle.ioam_topo_values.specs.Reads.{◌▷◌}
 use Rattle.ioam_topo_values.specs.Entries.{rows, entries, array_at, at_most, or_none}
 use Rattle.ioam_topo_entries.specs.declared.words.Table.{Table}
-use Rattle.ioam_topo_entries.specs.declared.words.Field.TheVariants.{NoKey}
 use Rattle.ioam_topo_entries.specs.declared.fault.DomainFault.{DomainFault}
-use Rattle.ioam_topo_entries.specs.Faults.{at, each, table_faults}
+use Rattle.ioam_topo_entries.specs.Faults.{at, each, table_faults, no_key}
 use Rattle.ioam_topo_entries.specs.Goods.{goods}
 use Rattle.ioam_topo_entries.proofs.GoodsLaws.{goods_few}
 
@@ -21,11 +20,11 @@ pub back_none : (xs ys : List DomainFault) → xs ++ ys ≡ [] → ys ≡ []
 back_none [] ys is = is
 back_none (x ∷ xs) ys is = cc
 
-few_in : (table : Table) (most : ℕ) (xs : List Members) (b : Bool) → nat_le (length xs) most ≡ b → at table 0 NoKey (cond b (Ok xs) (Err Why.TooMany)) ≡ [] → length xs ≤ most
+few_in : (table : Table) (most : ℕ) (xs : List Members) (b : Bool) → nat_le (length xs) most ≡ b → at table 0 no_key (cond b (Ok xs) (Err Why.TooMany)) ≡ [] → length xs ≤ most
 few_in table most xs true le is = grind (arith, nat_tests, le)
 few_in table most xs false le is = cc
 
-few_of : (table : Table) (most : ℕ) (r : Result (List Members) Why) → at table 0 NoKey (r ▷ at_most most) ≡ [] → length (or_none r) ≤ most
+few_of : (table : Table) (most : ℕ) (r : Result (List Members) Why) → at table 0 no_key (r ▷ at_most most) ≡ [] → length (or_none r) ≤ most
 few_of table most (Ok xs) is = few_in table most xs (nat_le (length xs) most) refl is
 few_of table most (Err why) is = omega arith
 
@@ -33,7 +32,7 @@ few_of table most (Err why) is = omega arith
 pub few_entries : {A : Type 0} (read : Members → Result A Why) (table : Table) (most : ℕ) (d : Option Data) (F : List Members → Members → List DomainFault)
     → table_faults table most d F ≡ [] → length (goods read (entries d)) ≤ most
 few_entries read table most d F is =
-    let f : length (entries d) ≤ most = few_of table most (array_at d) (front_none (at table 0 NoKey (rows most d)) (each F [] (entries d)) is) in
+    let f : length (entries d) ≤ most = few_of table most (array_at d) (front_none (at table 0 no_key (rows most d)) (each F [] (entries d)) is) in
     let g : length (goods read (entries d)) ≤ length (entries d) = goods_few read (entries d) in omega (arith, f, g)
 
 -- and gives no more items

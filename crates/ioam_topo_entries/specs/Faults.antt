@@ -1,25 +1,36 @@
 -- The faults of a domain file, one list in the order in which they are looked for.
-use Rattle.std.specs.Prelude.{◌≡◌, ⊤, ℕ, List, [], ◌∷◌, ◌++◌, Option, Some, None, Result, Ok, Err}
+use Rattle.std.specs.Prelude.{◌≡◌, ⊤, ℕ, codes, List, [], ◌∷◌, ◌++◌, Option, Some, None, Result, Ok, Err}
 use Rattle.toml.specs.Data.{Data, Members}
 use Rattle.ioam_topo_values.specs.declared.why.Why.{Why}
 use Rattle.ioam_topo_values.specs.declared.refused.Refused.{Refused}
 use Rattle.ioam_topo_values.specs.declared.refused.Refused.TheVariants.{Because, NoMemory as NoRoom}
 use Rattle.ioam_topo_values.specs.Entries.{rows, entries}
 use Rattle.ioam_topo_entries.specs.declared.words.Table.{Table}
-use Rattle.ioam_topo_entries.specs.declared.words.Field.{Field}
-use Rattle.ioam_topo_entries.specs.declared.words.Field.TheVariants.{NoKey}
 use Rattle.ioam_topo_entries.specs.declared.fault.DomainFault.{DomainFault}
 use Rattle.ioam_topo_entries.specs.declared.fault.DomainRefused.{DomainRefused}
 use Rattle.ioam_topo_entries.specs.declared.fault.DomainRefused.TheVariants.{Fault, NoMemory}
 
+-- in place of a key that its table doesn't list
+abbrev pub other_key : List ℕ
+other_key = codes "other"
+
+-- in place of a key, of a fault of the table or of the file
+abbrev pub no_key : List ℕ
+no_key = codes "-"
+
 -- a fault of this table, at this place, of this key, for this reason
-abbrev pub fault : Table → ℕ → Field → Why → DomainFault
-fault table place field why = record { table = table; place = place; field = field; why = why }
+abbrev pub fault : Table → ℕ → List ℕ → Why → DomainFault
+fault table place key why = record { table = table; place = place; field = key; why = why }
 
 -- what a key gives: nothing where it is read, else one fault
-abbrev pub at : {A : Type 0} → Table → ℕ → Field → Result A Why → List DomainFault
-at table place field (Ok x) = []
-at table place field (Err why) = fault table place field why ∷ []
+abbrev pub at : {A : Type 0} → Table → ℕ → List ℕ → Result A Why → List DomainFault
+at table place key (Ok x) = []
+at table place key (Err why) = fault table place key why ∷ []
+
+-- what the code read at a key, seen by `seen`, is this reading, or the fault of the key
+abbrev pub ReadsAt : {X A : Type 0} → (X → A) → Result X DomainRefused → Table → ℕ → List ℕ → Result A Why → Type 0
+ReadsAt seen (Ok x) table place key reading = reading ≡ Ok (seen x)
+ReadsAt seen (Err refused) table place key reading = (why : Why) × (reading ≡ Err why) × (refused ≡ Fault (fault table place key why))
 
 -- the first of a list
 abbrev pub first : {A : Type 0} → List A → Option A
@@ -39,9 +50,9 @@ each faults earlier (m ∷ ms) = faults earlier m ++ each faults (earlier ++ m �
 
 -- the faults of a table of no more than so many entries: of its heading, then of its entries
 abbrev pub table_faults : Table → ℕ → Option Data → (List Members → Members → List DomainFault) → List DomainFault
-table_faults table most d faults = at table 0 NoKey (rows most d) ++ each faults [] (entries d)
+table_faults table most d faults = at table 0 no_key (rows most d) ++ each faults [] (entries d)
 
 -- why a key gave nothing, at its place
-abbrev pub refused_at : Table → ℕ → Field → Refused → DomainRefused
-refused_at table place field (Because why) = Fault (fault table place field why)
-refused_at table place field NoRoom = NoMemory
+abbrev pub refused_at : Table → ℕ → List ℕ → Refused → DomainRefused
+refused_at table place key (Because why) = Fault (fault table place key why)
+refused_at table place key NoRoom = NoMemory

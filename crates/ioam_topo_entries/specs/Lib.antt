@@ -1,3 +1,4 @@
 pub mod Faults
 pub mod Goods
 pub mod Keys
+pub mod Rows

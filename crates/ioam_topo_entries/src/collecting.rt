@@ -75,6 +75,6 @@ pub fn read_entries<C, T: Collects<C>>(
         (T.Holds before.now (entries (get_member key.now (table_view top.now)))) }
 {
     let spot = Spot { table, place: 0 };
-    let found = spot.key_or(Field::NoKey, rows(alloc, top, key, most))?;
+    let found = spot.key_or(Field::NONE, rows(alloc, top, key, most))?;
     collect(alloc, before, found.as_slice(), none)
 }

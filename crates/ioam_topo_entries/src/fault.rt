@@ -3,7 +3,7 @@ use crate::words::{Field, Table};
 use ioam_topo_values::Why;
 
 /// Why a domain file is refused, with the place.
-#[derive(Clone, Copy, Debug, PartialEq, Eq)]
+#[derive(Debug, Drop)]
 pub struct DomainFault {
     /// The table.
     pub table: Table,
@@ -16,7 +16,7 @@ pub struct DomainFault {
 }
 
 /// Why no domain was read.
-#[derive(Clone, Copy, Debug, PartialEq, Eq)]
+#[derive(Debug, Drop)]
 pub enum DomainRefused {
     /// The file has faults, and this is the first.
     Fault(DomainFault),

@@ -5,7 +5,7 @@ ghost use Rattle.std.specs.Str.{bytes_eq};
 ghost use Rattle.std.specs.BTreeMap.{keys};
 ghost use Rattle.toml.specs.View.{table_view};
 ghost use Rattle.ioam_topo_entries.specs.declared.fault.DomainRefused.TheVariants.{Fault};
-ghost use Rattle.ioam_topo_entries.specs.Faults.{fault, refused_at};
+ghost use Rattle.ioam_topo_entries.specs.Faults.{fault, other_key, refused_at, ReadsAt};
 ghost use Rattle.ioam_topo_entries.specs.Keys.{is_listed, all_listed, own_keys};
 
 use crate::fault::{DomainFault, DomainRefused};
@@ -22,35 +22,46 @@ pub struct Spot {
 }
 
 impl Spot {
-    fn fault(self, field: Field, why: Why) -> DomainRefused
-        ensures { result ≡ Fault (fault self.table self.place field why) }
+    pub(crate) fn fault(self, key: &'static str, why: Why) -> DomainRefused
+        ensures { result ≡ Fault (fault self.table self.place key.now why) }
     {
         DomainRefused::Fault(DomainFault {
             table: self.table,
             place: self.place,
-            field,
+            field: Field(key),
             why,
         })
     }
 
     /// What was read at a key, or its fault.
-    pub fn key<T>(self, field: Field, read: Result<T, Why>) -> Result<T, DomainRefused>
-        ensures { MatchResult read (λ x. result ≡ Ok x) (λ why. result ≡ Err (Fault (fault self.table self.place field why))) }
+    pub fn key<T>(self, key: &'static str, read: Result<T, Why>) -> Result<T, DomainRefused>
+        ensures { MatchResult read (λ x. result ≡ Ok x) (λ why. result ≡ Err (Fault (fault self.table self.place key.now why))) }
     {
         match read {
             Ok(value) => Ok(value),
-            Err(why) => Err(self.fault(field, why)),
+            Err(why) => Err(self.fault(key, why)),
         }
     }
 
     /// What was read at a key, or its fault, of a read that may find no memory.
-    pub fn key_or<T>(self, field: Field, read: Result<T, Refused>) -> Result<T, DomainRefused>
-        ensures { MatchResult read (λ x. result ≡ Ok x) (λ refused. result ≡ Err (refused_at self.table self.place field refused)) }
+    pub fn key_or<T>(self, key: &'static str, read: Result<T, Refused>) -> Result<T, DomainRefused>
+        ensures { MatchResult read (λ x. result ≡ Ok x) (λ refused. result ≡ Err (refused_at self.table self.place key.now refused)) }
     {
         match read {
             Ok(value) => Ok(value),
-            Err(Refused::Because(why)) => Err(self.fault(field, why)),
+            Err(Refused::Because(why)) => Err(self.fault(key, why)),
             Err(Refused::NoMemory) => Err(DomainRefused::NoMemory),
+        }
+    }
+
+    /// The keys of an entry are all listed by the table, else Unknown.
+    pub fn own_keys(self, entry: &toml::Table) -> Result<(), DomainRefused>
+        ensures { ReadsAt (λ x. x) result self.table self.place other_key (own_keys self.table (table_view entry.now)) }
+    {
+        if keys_listed(self.table, entry) {
+            Ok(())
+        } else {
+            Err(self.fault(Field::OTHER, Why::Unknown))
         }
     }
 }
@@ -120,15 +131,4 @@ fn keys_listed(table: Table, entry: &toml::Table) -> bool
     ensures { result ≡ all_listed table (table_view entry.now) }
 {
     all_listed(table, entry)
-}
-
-/// The keys of an entry are all listed by its table, else Unknown.
-pub fn own_keys(table: Table, entry: &toml::Table) -> Result<(), Why>
-    ensures { result ≡ own_keys table (table_view entry.now) }
-{
-    if keys_listed(table, entry) {
-        Ok(())
-    } else {
-        Err(Why::Unknown)
-    }
 }

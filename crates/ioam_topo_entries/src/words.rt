@@ -1,4 +1,5 @@
 //! The tables of a domain file and the keys of their entries.
+use std::marker::Model;
 
 /// The tables of a domain file.
 #[derive(Clone, Copy, Debug, PartialEq, Eq)]
@@ -21,49 +22,22 @@ pub enum Table {
     ExtraTable,
 }
 
-/// The keys of a domain file's tables. A key that several tables have is one variant.
-#[derive(Clone, Copy, Debug, PartialEq, Eq)]
-pub enum Field {
-    FormatKey,
-    PacketsKey,
-    NameKey,
-    IdKey,
-    AddressKey,
-    NamespacesKey,
-    FromKey,
-    ToKey,
-    OutIdKey,
-    InIdKey,
-    DelayKey,
-    MtuKey,
-    TapKey,
-    NodeKey,
-    InKey,
-    OutKey,
-    PrefixKey,
-    LinkKey,
-    PortKey,
-    NamespaceKey,
-    ShortKey,
-    WideKey,
-    SchemaKey,
-    SnapshotKey,
-    EntryKey,
-    ExitKey,
-    SourceKey,
-    TargetKey,
-    HopsKey,
-    LabelKey,
-    TraceKey,
-    CapacityKey,
-    EdgeKey,
-    DirectKey,
-    EveryKey,
-    FlowIdKey,
-    LimitKey,
-    FlowKey,
-    /// A key that is none of the table's.
-    OtherKey,
-    /// No key: the fault is one of the table or of the file.
-    NoKey,
+/// The text of a key as it stands in the file, or [`Field::OTHER`] or [`Field::NONE`].
+#[derive(Debug, Drop)]
+pub struct Field(pub &'static str);
+
+impl Model for Field {
+    ghost use Rattle.std.specs.Prelude.{List, ℕ};
+
+    ghost Value = { List ℕ };
+
+    ghost view = { λ field. field.0.now };
+}
+
+impl Field {
+    /// In place of a key that its table doesn't list.
+    pub const OTHER: &'static str = "other";
+
+    /// In place of a key, where the fault is one of the table or of the file.
+    pub const NONE: &'static str = "-";
 }

@@ -5,12 +5,11 @@ use Rattle.toml.specs.Data.{Members}
 use Rattle.toml.specs.Parse.{parse_document}
 use Rattle.ioam_topo_values.specs.declared.why.Why.TheVariants.{Long, Text}
 use Rattle.ioam_topo_entries.specs.declared.words.Table.TheVariants.{Top}
-use Rattle.ioam_topo_entries.specs.declared.words.Field.TheVariants.{NoKey}
 use Rattle.ioam_topo_entries.specs.declared.fault.DomainFault.{DomainFault}
 use Rattle.ioam_topo_entries.specs.declared.fault.DomainRefused.{DomainRefused}
 use Rattle.ioam_topo_entries.specs.declared.fault.DomainRefused.TheVariants.{Fault, NoMemory}
 use Rattle.ioam_topo.specs.declared.domain.Domain.{Domain}
-use Rattle.ioam_topo_entries.specs.Faults.{fault, first}
+use Rattle.ioam_topo_entries.specs.Faults.{fault, first, no_key}
 use Rattle.ioam_topo_network.specs.Places.{nodes_of, links_of, ports_of, routes_of}
 use Rattle.ioam_topo_file.specs.Top.{faults_of, format_of, packets_of, node_data_of, flows_of}
 use Rattle.std.specs.List.{All}
@@ -57,12 +56,12 @@ pub record IsDomainOf (octets : List ℕ) (domain : Domain) : Type 0 where
 -- the fault of a file of too many octets, and of one that is no text
 pub record IsLongFile (octets : List ℕ) (found : DomainFault) : Type 0 where
   pub many : 1048576 < length octets
-  pub is : found ≡ fault Top 0 NoKey Long
+  pub is : found ≡ fault Top 0 no_key Long
 
 -- the fault of a file whose octets are no TOML document
 pub record IsFaultyText (octets : List ℕ) (found : DomainFault) : Type 0 where
   pub text : IsNoText octets
-  pub is : found ≡ fault Top 0 NoKey Text
+  pub is : found ≡ fault Top 0 no_key Text
 
 -- the first fault of the table of a file
 pub record IsFirstFault (octets : List ℕ) (found : DomainFault) : Type 0 where

@@ -3,6 +3,8 @@ pub mod PartsRead
 pub mod File
 -- of the crates below, for the crates above
 pub use Rattle.ioam_topo_entries.specs.Goods
+pub use Rattle.ioam_topo_entries.specs.Keys
+pub use Rattle.ioam_topo_entries.specs.Rows
 pub use Rattle.ioam_topo_flows.specs.ExtraTable
 pub use Rattle.ioam_topo_flows.specs.FlowParts
 pub use Rattle.ioam_topo_flows.specs.FlowTable

@@ -12,9 +12,8 @@ use Rattle.ioam_topo.specs.declared.format.Format.TheVariants.{Ptp, Ntp, Posix}
 use Rattle.ioam_topo.specs.declared.parts.NodeData.{NodeData}
 use Rattle.ioam_topo.specs.declared.parts.Flow.{Flow}
 use Rattle.ioam_topo_entries.specs.declared.words.Table.TheVariants.{Top}
-use Rattle.ioam_topo_entries.specs.declared.words.Field.TheVariants.{OtherKey, FormatKey, PacketsKey}
 use Rattle.ioam_topo_entries.specs.declared.fault.DomainFault.{DomainFault}
-use Rattle.ioam_topo_entries.specs.Faults.{at}
+use Rattle.ioam_topo_entries.specs.Faults.{at, other_key}
 use Rattle.ioam_topo_entries.specs.Keys.{own_keys}
 use Rattle.ioam_topo_network.specs.Places.{node_names, node_lists, part_faults, route_table_faults}
 use Rattle.ioam_topo_flows.specs.Tables.{data_behind, flows_behind, data_table_faults, flow_table_faults, extra_table_faults}
@@ -46,7 +45,7 @@ flows_of t = flows_behind (node_names t) (node_lists t) t
 
 -- the faults of the file's own keys
 abbrev pub top_keys : Members → List DomainFault
-top_keys t = at Top 0 OtherKey (own_keys Top t) ++ (at Top 0 FormatKey (format_of t) ++ at Top 0 PacketsKey (packets_of t))
+top_keys t = at Top 0 other_key (own_keys Top t) ++ (at Top 0 (codes "format") (format_of t) ++ at Top 0 (codes "packets") (packets_of t))
 
 -- the faults of the tables of what nodes and flows record: at most 256 flows and 512 extra traces
 abbrev pub telemetry_faults : Members → List DomainFault

@@ -2,8 +2,7 @@
 ghost use Rattle.std.specs.Prelude.{◌≡◌, length, IfOk};
 ghost use Rattle.toml.specs.View.{table_view};
 ghost use Rattle.ioam_topo_entries.specs.declared.words.Table.TheVariants.{Top};
-ghost use Rattle.ioam_topo_entries.specs.declared.words.Field.TheVariants.{NoKey};
-ghost use Rattle.ioam_topo_entries.specs.Faults.{Gives, fault};
+ghost use Rattle.ioam_topo_entries.specs.Faults.{Gives, fault, no_key};
 ghost use Rattle.ioam_topo_network.specs.NodeRead.{HoldsNodes};
 ghost use Rattle.ioam_topo_network.specs.Places.{node_entries};
 ghost use Rattle.ioam_topo_file.specs.PartsRead.{HoldsTelemetry};
@@ -63,19 +62,19 @@ fn read_tables(alloc: Global, top: &toml::Table) -> Result<Domain, DomainRefused
 
 // A fault of the file as a whole.
 fn whole_fault(why: Why) -> DomainFault
-    ensures { result ≡ fault Top 0 NoKey why }
+    ensures { result ≡ fault Top 0 no_key why }
 {
     DomainFault {
         table: Table::Top,
         place: 0,
-        field: Field::NoKey,
+        field: Field(Field::NONE),
         why,
     }
 }
 
 /// The fault of a file of more than 1 MiB, for whoever reads no more of a file than that.
 pub fn long_file() -> DomainFault
-    ensures { result ≡ fault Top 0 NoKey Why.Long }
+    ensures { result ≡ fault Top 0 no_key Why.Long }
 {
     whole_fault(Why::Long)
 }

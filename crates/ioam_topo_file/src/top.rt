@@ -6,7 +6,7 @@ ghost use Rattle.ioam_topo_entries.specs.Faults.{Gives};
 ghost use Rattle.ioam_topo_file.specs.Top.{format_of, format_named, packets_of, top_keys};
 
 use ioam_topo::Format;
-use ioam_topo_entries::{DomainRefused, Field, Spot, Table, own_keys};
+use ioam_topo_entries::{DomainRefused, Spot, Table};
 use ioam_topo_values::{Why, find, number_or, text_of};
 
 // The most packets of a run that a file may say.
@@ -63,8 +63,8 @@ pub(crate) fn read_own(top: &toml::Table) -> Result<Own, DomainRefused>
         table: Table::Top,
         place: 0,
     };
-    spot.key(Field::OtherKey, own_keys(Table::Top, top))?;
-    let format = spot.key(Field::FormatKey, format_of(top))?;
-    let packets = spot.key(Field::PacketsKey, packets_of(top))?;
+    spot.own_keys(top)?;
+    let format = spot.key("format", format_of(top))?;
+    let packets = spot.key("packets", packets_of(top))?;
     Ok(Own { format, packets })
 }

@@ -1,9 +1,8 @@
 -- Laws of what is true of node data, from what their entries read as.
-use Rattle.std.proofs.Common.{◌≡◌, ◌≤◌, ◌%◌, ℕ, codes, List, length, Option, is_some, Result, Ok, Err, refl, subst}
+use Rattle.std.proofs.Common.{◌≡◌, ◌≤◌, ◌%◌, ℕ, codes, List, length, is_some, Ok, subst}
 use Rattle.std.specs.List.{All}
 use Rattle.toml.specs.Data.{Members, get_member}
-use Rattle.ioam_topo_values.specs.declared.why.Why.{Why}
-use Rattle.ioam_topo_values.specs.Reads.{◌▷◌, needed, maybe}
+use Rattle.ioam_topo_values.specs.Reads.{needed, maybe}
 use Rattle.ioam_topo_values.specs.Numbers.{number}
 use Rattle.ioam_topo_values.specs.Texts.{name}
 use Rattle.ioam_topo_values.specs.Octets.{octets}
@@ -15,31 +14,26 @@ use Rattle.ioam_topo.specs.Kept.{IsOfNode}
 use Rattle.ioam_topo.specs.Sound.{IsNodeData}
 use Rattle.ioam_topo_entries.proofs.ReadLaws.{number_bounds, beside_off, maybe_for, paired}
 use Rattle.ioam_topo_entries.proofs.GoodsLaws.{known_below, goods_all}
-
--- what the keys of an entry read as is what its data have
-record AreParts (a b : Result ℕ Why) (c d e : Result (Option ℕ) Why) (f : Result (Option (List ℕ)) Why) (row : NodeData) : Type 0 where
-  node : a ≡ Ok row.node.0
-  wide : d ≡ Ok row.wide
-  schema : e ≡ Ok row.schema
-  snapshot : f ≡ Ok row.snapshot
-
-data_parts : (a b : Result ℕ Why) (c d e : Result (Option ℕ) Why) (f : Result (Option (List ℕ)) Why) (row : NodeData)
-    → a ▷ (λ node. b ▷ (λ space. c ▷ (λ short. d ▷ (λ wide. e ▷ (λ schema. f ▷ (λ snapshot.
-    Ok (record { node = record { 0 = node }; namespace = record { 0 = space }; short = short; wide = wide; schema = schema; snapshot = snapshot }))))))) ≡ Ok row
-    → AreParts a b c d e f row
-data_parts (Err why) b c d e f row is = cc
-data_parts (Ok node) (Err why) c d e f row is = cc
-data_parts (Ok node) (Ok space) (Err why) d e f row is = cc
-data_parts (Ok node) (Ok space) (Ok short) (Err why) e f row is = cc
-data_parts (Ok node) (Ok space) (Ok short) (Ok wide) (Err why) f row is = cc
-data_parts (Ok node) (Ok space) (Ok short) (Ok wide) (Ok schema) (Err why) row is = cc
-data_parts (Ok node) (Ok space) (Ok short) (Ok wide) (Ok schema) (Ok snapshot) row is =
-    let same : record { node = record { 0 = node }; namespace = record { 0 = space }; short = short; wide = wide; schema = schema; snapshot = snapshot } ≡ row = cc in
-    subst (AreParts (Ok node) (Ok space) (Ok short) (Ok wide) (Ok schema) (Ok snapshot)) same (record { node = refl; wide = refl; schema = refl; snapshot = refl })
+use Rattle.ioam_topo_entries.proofs.NumberLaws.{read_first}
 
 module _ (nodes : List (List ℕ)) (m : Members) where
-  parts_of : (row : NodeData) → data_of nodes m ≡ Ok row → AreParts (data_node nodes m) (data_space m) (data_short m) (data_wide m) (data_schema m) (data_snapshot m) row
-  parts_of row is = data_parts (data_node nodes m) (data_space m) (data_short m) (data_wide m) (data_schema m) (data_snapshot m) row is
+  -- data have what the keys of their entry read as
+  record AreParts (row : NodeData) : Type 0 where
+    node : data_node nodes m ≡ Ok row.node.0
+    wide : data_wide m ≡ Ok row.wide
+    schema : data_schema m ≡ Ok row.schema
+    snapshot : data_snapshot m ≡ Ok row.snapshot
+
+  parts_of : (row : NodeData) → data_of nodes m ≡ Ok row → AreParts row
+  parts_of row is =
+      let node = read_first (data_node nodes m) _ row is in
+      let space = read_first (data_space m) _ row node.2 in
+      let short = read_first (data_short m) _ row space.2 in
+      let wide = read_first (data_wide m) _ row short.2 in
+      let schema = read_first (data_schema m) _ row wide.2 in
+      let snapshot = read_first (data_snapshot m) _ row schema.2 in
+      let same : record { node = record { 0 = node.0 }; namespace = record { 0 = space.0 }; short = short.0; wide = wide.0; schema = schema.0; snapshot = snapshot.0 } ≡ row = cc in
+      subst AreParts same (record { node = node.1; wide = wide.1; schema = schema.1; snapshot = snapshot.1 })
 
   -- data are of a node of these names
   pub data_placed : (row : NodeData) → data_of nodes m ≡ Ok row → IsOfNode (length nodes) row
@@ -48,7 +42,7 @@ module _ (nodes : List (List ℕ)) (m : Members) where
   -- data are within their bounds
   data_facts : (row : NodeData) → data_of nodes m ≡ Ok row → IsNodeData row
   data_facts row is =
-      let parts : AreParts (data_node nodes m) (data_space m) (data_short m) (data_wide m) (data_schema m) (data_snapshot m) row = parts_of row is in
+      let parts = parts_of row is in
       let schema : maybe (number 0 16777214) (get_member (codes "schema") m) ≡ Ok row.schema
       = beside_off (is_some (get_member (codes "snapshot") m)) (maybe (number 0 16777214) (get_member (codes "schema") m)) row.schema parts.schema in
       let snapshot : maybe octets (get_member (codes "snapshot") m) ≡ Ok row.snapshot

@@ -1,5 +1,5 @@
 -- Laws of the node data that are collected.
-use Rattle.std.proofs.Common.{◌≡◌, ℕ, ◌+◌, List, [], ◌∷◌, ◌++◌, length, Bool, true, false, cond, Result, Ok, Err, refl, ap, sym, ◌∙◌, subst}
+use Rattle.std.proofs.Common.{◌≡◌, ℕ, ◌+◌, List, [], ◌∷◌, ◌++◌, length, Bool, true, false, cond, Result, Ok, Err, refl, ap, sym, ◌∙◌, subst, codes}
 use Rattle.std.specs.List.{list_any}
 use Rattle.toml.specs.Data.{Members}
 use Rattle.ioam_topo_values.specs.declared.why.Why.{Why}
@@ -12,10 +12,9 @@ use Rattle.ioam_topo_flows.specs.Apart.{fresh_with}
 use Rattle.ioam_topo_flows.specs.DataTable.{data_node, data_space, values_of, value_keys, data_keys, data_faults, data_of, data_key}
 use Rattle.ioam_topo_flows.specs.DataRead.{HoldsData, IsNewData}
 use Rattle.ioam_topo_entries.specs.declared.words.Table.TheVariants.{DataTable}
-use Rattle.ioam_topo_entries.specs.declared.words.Field.TheVariants.{OtherKey, NodeKey, NamespaceKey}
 use Rattle.ioam_topo_entries.specs.declared.fault.DomainFault.{DomainFault}
 use Rattle.ioam_topo_entries.specs.declared.fault.DomainRefused.{DomainRefused}
-use Rattle.ioam_topo_entries.specs.Faults.{at, Gives}
+use Rattle.ioam_topo_entries.specs.Faults.{at, Gives, other_key}
 use Rattle.ioam_topo_entries.specs.Keys.{own_keys}
 use Rattle.ioam_topo_entries.proofs.FaultLaws.{gives_same}
 use Rattle.ioam_topo_entries.proofs.KeyLaws.{kept_by}
@@ -54,9 +53,9 @@ fresh_with_read a seen (Err why) x is = cc
 module _ (nodes : List (List ℕ)) (m : Members) (seen : List (ℕ × ℕ)) (node space : ℕ) (placed : data_node nodes m ≡ Ok node)
     (spaced : data_space m ▷ fresh_with (Ok node) seen ≡ Ok space) where
   -- behind a node and a namespace that were read, the faults of an entry are those of its values
-  values_behind : (place : ℕ) → at DataTable place OtherKey (own_keys DataTable m) ≡ [] → value_keys place m ≡ data_keys nodes place seen m
-  values_behind place own = behind_three own (ap (at DataTable place NodeKey) placed)
-      (ap (at DataTable place NamespaceKey) (ap (λ r. data_space m ▷ fresh_with r seen) placed ∙ spaced)) where
+  values_behind : (place : ℕ) → at DataTable place other_key (own_keys DataTable m) ≡ [] → value_keys place m ≡ data_keys nodes place seen m
+  values_behind place own = behind_three own (ap (at DataTable place (codes "node")) placed)
+      (ap (at DataTable place (codes "namespace")) (ap (λ r. data_space m ▷ fresh_with r seen) placed ∙ spaced)) where
         behind_three : {a b c d : List DomainFault} → a ≡ [] → b ≡ [] → c ≡ [] → d ≡ a ++ (b ++ (c ++ d))
         behind_three a b c = rw (a, b, c)
 
@@ -72,7 +71,7 @@ module _ (nodes : List (List ℕ)) (m : Members) (seen : List (ℕ × ℕ)) (nod
       }
 
   -- what such an entry gives is what its values give
-  pub row_behind : (place : ℕ) (rows : DataRows) (read : Result NodeData DomainRefused) → rows.taken.keys ≡ seen → at DataTable place OtherKey (own_keys DataTable m) ≡ []
+  pub row_behind : (place : ℕ) (rows : DataRows) (read : Result NodeData DomainRefused) → rows.taken.keys ≡ seen → at DataTable place other_key (own_keys DataTable m) ≡ []
       → Gives read (value_keys place m) (λ row. (values_of node space m ≡ Ok row) × (row.node.0 ≡ node) × (row.namespace.0 ≡ space))
       → Gives read (data_keys nodes place seen m) (IsNewData nodes rows m)
   row_behind place rows (Ok row) keys own is = (sym (values_behind place own) ∙ is.0, new_data rows row keys is.1.0 is.1.1 is.1.2)

@@ -29,9 +29,8 @@ use Rattle.ioam_topo_entries.proofs.GoodsLaws.{goods_push, known_below}
 use Rattle.ioam_topo_entries.proofs.KeyLaws.{kept_by}
 use Rattle.ioam_topo_entries.proofs.ReadLaws.{passed, needed_bounds}
 use Rattle.ioam_topo_entries.specs.declared.words.Table.TheVariants.{ExtraTable}
-use Rattle.ioam_topo_entries.specs.declared.words.Field.TheVariants.{OtherKey, FlowKey, NamespaceKey}
 use Rattle.ioam_topo_entries.specs.declared.fault.DomainFault.{DomainFault}
-use Rattle.ioam_topo_entries.specs.Faults.{at}
+use Rattle.ioam_topo_entries.specs.Faults.{at, other_key}
 use Rattle.ioam_topo_entries.specs.Keys.{own_keys}
 use Rattle.ioam_data.specs.Kind.{is_entry_type}
 use Rattle.ioam_topo_values.specs.Types.{trace_type}
@@ -342,7 +341,7 @@ extra_read nodes flows extras m i space kind capacity named spaced traced_is siz
     }
 
 -- such an entry has no faults but those of its type and its capacity
-pub extra_rest : (nodes : Nodes) (flows : Flows) (extras : Extras) (m : Members) (place i space : ℕ) → at ExtraTable place OtherKey (own_keys ExtraTable m) ≡ []
+pub extra_rest : (nodes : Nodes) (flows : Flows) (extras : Extras) (m : Members) (place i space : ℕ) → at ExtraTable place other_key (own_keys ExtraTable m) ≡ []
     → flow_behind nodes flows m ▷ few_of extras.places.items ≡ Ok i
     → needed (number 0 65535) (get_member (codes "namespace") m) ▷ known_at (map list_of nodes.items.items) (look_in (map look_of flows.items.items) (Ok i)).entry
     ▷ known_at (map list_of nodes.items.items) (look_in (map look_of flows.items.items) (Ok i)).exit
@@ -351,6 +350,6 @@ pub extra_rest : (nodes : Nodes) (flows : Flows) (extras : Extras) (m : Members)
 extra_rest nodes flows extras m place i space own named spaced =
     let few : (flow_behind nodes flows m ≡ Ok i) × (times i extras.places.items < 2) = few_read extras.places.items (flow_behind nodes flows m) i named in
     let read = fresh_behind flows.names (map look_of flows.items.items) (map list_of nodes.items.items) m i few.0 extras.taken.keys ∙ spaced in
-    behind_three own (ap (at ExtraTable place FlowKey) named) (ap (at ExtraTable place NamespaceKey) read) where
+    behind_three own (ap (at ExtraTable place (codes "flow")) named) (ap (at ExtraTable place (codes "namespace")) read) where
       behind_three : {a b c d : List DomainFault} → a ≡ [] → b ≡ [] → c ≡ [] → d ≡ a ++ (b ++ (c ++ d))
       behind_three a b c = rw (a, b, c)

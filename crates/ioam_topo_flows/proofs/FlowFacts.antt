@@ -21,6 +21,7 @@ use Rattle.ioam_topo.proofs.TracesLaws.{own_first, own_few, own_sound, own_apart
 use Rattle.ioam_topo_entries.specs.Goods.{goods}
 use Rattle.ioam_topo_entries.proofs.ReadLaws.{number_bounds, needed_bounds, passed, passed_from, beside_off, maybe_for, paired}
 use Rattle.ioam_topo_entries.proofs.GoodsLaws.{goods_all}
+use Rattle.ioam_topo_flows.proofs.PartLaws.{selection_read, outer_read, tracing_read, exporting_read, flow_read}
 use Rattle.ioam_topo_flows.specs.declared.flow_parts.Selection.{Selection}
 use Rattle.ioam_topo_flows.specs.declared.flow_parts.Outer.{Outer}
 use Rattle.ioam_topo_flows.specs.declared.flow_parts.Tracing.{Tracing}
@@ -63,124 +64,51 @@ record IsExporting (e : Exporting) : Type 0 where
   named : is_some e.flow_id ≡ is_some e.direct
   id : ForSome e.flow_id (λ id. id < 2 ^ 32)
 
-selection_read : (a b : Result ℕ Why) (c d : Result Prefix Why) (e : Result ℕ Why) (s : Selection)
-    → ((p : Prefix) → c ≡ Ok p → IsPrefix p) → ((p : Prefix) → d ≡ Ok p → IsPrefix p) → ((x : ℕ) → e ≡ Ok x → x ≤ 65535)
-    → a ▷ (λ entry. b ▷ (λ exit. c ▷ (λ source. d ▷ (λ target. e ▷ (λ space.
-    Ok (record { entry = entry; exit = exit; source = source; target = target; namespace = space })))))) ≡ Ok s → IsSelection s
-selection_read (Ok x) (Ok y) (Ok p) (Ok q) (Ok z) s source target most is =
-    let same : record { entry = x; exit = y; source = p; target = q; namespace = z } ≡ s = cc in
-    subst IsSelection same (record { source = source p refl; target = target q refl; namespace = most z refl })
-selection_read (Ok x) (Ok y) (Ok p) (Ok q) (Err why) s source target most is = cc
-selection_read (Ok x) (Ok y) (Ok p) (Err why) e s source target most is = cc
-selection_read (Ok x) (Ok y) (Err why) d e s source target most is = cc
-selection_read (Ok x) (Err why) c d e s source target most is = cc
-selection_read (Err why) b c d e s source target most is = cc
-
-outer_read : (a b : Result ℕ Why) (o : Outer) → ((x : ℕ) → a ≡ Ok x → (1 ≤ x) × (x ≤ 255)) → ((x : ℕ) → b ≡ Ok x → x ≤ 1048575)
-    → a ▷ (λ hops. b ▷ (λ label. Ok (record { hops = hops; label = label }))) ≡ Ok o → IsOuter o
-outer_read (Ok x) (Ok y) o within most is = let same : record { hops = x; label = y } ≡ o = cc in subst IsOuter same (record { hops = within x refl; label = most y refl })
-outer_read (Ok x) (Err why) o within most is = cc
-outer_read (Err why) b o within most is = cc
-
-tracing_read : (a b c : Result (Option ℕ) Why) (t : Tracing) → ((x y z : Option ℕ) → a ≡ Ok x → b ≡ Ok y → c ≡ Ok z → IsTracing (record { trace = x; capacity = y; edge = z }))
-    → a ▷ (λ trace. b ▷ (λ capacity. c ▷ (λ edge. Ok (record { trace = trace; capacity = capacity; edge = edge })))) ≡ Ok t → IsTracing t
-tracing_read (Ok x) (Ok y) (Ok z) t all is = let same : record { trace = x; capacity = y; edge = z } ≡ t = cc in subst IsTracing same (all x y z refl refl refl)
-tracing_read (Ok x) (Ok y) (Err why) t all is = cc
-tracing_read (Ok x) (Err why) c t all is = cc
-tracing_read (Err why) b c t all is = cc
-
-exporting_read : (a b c d : Result (Option ℕ) Why) (e : Exporting)
-    → ((x y z w : Option ℕ) → a ≡ Ok x → b ≡ Ok y → c ≡ Ok z → IsExporting (record { direct = x; every = y; flow_id = z; limit = w }))
-    → a ▷ (λ direct. b ▷ (λ every. c ▷ (λ id. d ▷ (λ limit. Ok (record { direct = direct; every = every; flow_id = id; limit = limit }))))) ≡ Ok e → IsExporting e
-exporting_read (Ok x) (Ok y) (Ok z) (Ok w) e all is =
-    let same : record { direct = x; every = y; flow_id = z; limit = w } ≡ e = cc in subst IsExporting same (all x y z w refl refl refl)
-exporting_read (Ok x) (Ok y) (Ok z) (Err why) e all is = cc
-exporting_read (Ok x) (Ok y) (Err why) d e all is = cc
-exporting_read (Ok x) (Err why) c d e all is = cc
-exporting_read (Err why) b c d e all is = cc
-
 module _ (m : Members) where
   zero_or : (high : ℕ) (o : Option Data) (x : ℕ) → optional 0 (number 0 high) o ≡ Ok x → x ≤ high
   zero_or high None x is = let same : 0 ≡ x = cc in omega (arith, same)
   zero_or high (Some d) x is = (number_bounds 0 high d x is).1
 
   outer_facts : (o : Outer) → outer_of m ≡ Ok o → IsOuter o
-  outer_facts o is = outer_read (flow_hops m) (flow_label m) o (needed_bounds 1 255 (get_member (codes "hops") m))
-      (λ x read. zero_or 1048575 (get_member (codes "label") m) x read) is
+  outer_facts o is =
+      let read = outer_read m o is in
+      record { hops = needed_bounds 1 255 (get_member (codes "hops") m) o.hops read.hops; label = zero_or 1048575 (get_member (codes "label") m) o.label read.label }
 
   tracing_facts : (t : Tracing) → tracing_of m ≡ Ok t → IsTracing t
-  tracing_facts t is = tracing_read (flow_trace m) (flow_capacity m) (flow_edge m) t (λ x y z a b c.
-      let trace : maybe trace_type (get_member (codes "trace") m) ≡ Ok x = beside_off (is_some (get_member (codes "capacity") m)) (maybe trace_type (get_member (codes "trace") m)) x a in
-      let capacity : maybe (number 1 61) (get_member (codes "capacity") m) ≡ Ok y = beside_off (is_some (get_member (codes "trace") m)) (maybe (number 1 61) (get_member (codes "capacity") m)) y b in
+  tracing_facts t is =
+      let read = tracing_read m t is in
+      let trace : maybe trace_type (get_member (codes "trace") m) ≡ Ok t.trace = beside_off (is_some (get_member (codes "capacity") m)) (maybe trace_type (get_member (codes "trace") m)) t.trace read.trace in
+      let capacity : maybe (number 1 61) (get_member (codes "capacity") m) ≡ Ok t.capacity = beside_off (is_some (get_member (codes "trace") m)) (maybe (number 1 61) (get_member (codes "capacity") m)) t.capacity read.capacity in
       record {
-        kind = maybe_for trace_type (λ k. is_entry_type k ≡ true) (λ d n read. passed is_entry_type (number 0 16777215 d) n read) (get_member (codes "trace") m) x trace;
-        least = maybe_for (number 1 61) (λ n. 1 ≤ n) (λ d n read. (number_bounds 1 61 d n read).0) (get_member (codes "capacity") m) y capacity;
-        most = maybe_for (number 1 61) (λ n. n ≤ 61) (λ d n read. (number_bounds 1 61 d n read).1) (get_member (codes "capacity") m) y capacity;
-        both = paired trace_type (number 1 61) (is_some (get_member (codes "capacity") m)) (get_member (codes "trace") m) (get_member (codes "capacity") m) x y (λ on. on) a b;
-        edge_least = maybe_for edge_type (λ k. 1 ≤ k) (λ d n read. (number_bounds 1 65535 d n (passed_from is_edge_type (number 1 65535 d) n read)).0) (get_member (codes "edge") m) z c;
-        edge_kind = maybe_for edge_type (λ k. is_edge_type k ≡ true) (λ d n read. passed is_edge_type (number 1 65535 d) n read) (get_member (codes "edge") m) z c;
-      }) is
+        kind = maybe_for trace_type (λ k. is_entry_type k ≡ true) (λ d n read. passed is_entry_type (number 0 16777215 d) n read) (get_member (codes "trace") m) t.trace trace;
+        least = maybe_for (number 1 61) (λ n. 1 ≤ n) (λ d n read. (number_bounds 1 61 d n read).0) (get_member (codes "capacity") m) t.capacity capacity;
+        most = maybe_for (number 1 61) (λ n. n ≤ 61) (λ d n read. (number_bounds 1 61 d n read).1) (get_member (codes "capacity") m) t.capacity capacity;
+        both = paired trace_type (number 1 61) (is_some (get_member (codes "capacity") m)) (get_member (codes "trace") m) (get_member (codes "capacity") m) t.trace t.capacity (λ on. on) read.trace read.capacity;
+        edge_least = maybe_for edge_type (λ k. 1 ≤ k) (λ d n read. (number_bounds 1 65535 d n (passed_from is_edge_type (number 1 65535 d) n read)).0) (get_member (codes "edge") m) t.edge read.edge;
+        edge_kind = maybe_for edge_type (λ k. is_edge_type k ≡ true) (λ d n read. passed is_edge_type (number 1 65535 d) n read) (get_member (codes "edge") m) t.edge read.edge;
+      }
 
   exporting_facts : (e : Exporting) → exporting_of m ≡ Ok e → IsExporting e
-  exporting_facts e is = exporting_read (flow_direct m) (flow_every m) (flow_id m) (flow_limit m) e (λ x y z w a b c.
+  exporting_facts e is =
+      let read = exporting_read m e is in
       let others : Bool = is_some (get_member (codes "every") m) || is_some (get_member (codes "flow_id") m) in
-      let direct : maybe direct_type (get_member (codes "direct") m) ≡ Ok x = beside_off others (maybe direct_type (get_member (codes "direct") m)) x a in
-      let id : maybe (number 0 4294967295) (get_member (codes "flow_id") m) ≡ Ok z
-      = beside_off (is_some (get_member (codes "direct") m)) (maybe (number 0 4294967295) (get_member (codes "flow_id") m)) z c in
-      let every : maybe (number 1 1000000) (get_member (codes "every") m) ≡ Ok y
-      = beside_off (is_some (get_member (codes "direct") m)) (maybe (number 1 1000000) (get_member (codes "every") m)) y b in
+      let direct : maybe direct_type (get_member (codes "direct") m) ≡ Ok e.direct = beside_off others (maybe direct_type (get_member (codes "direct") m)) e.direct read.direct in
+      let id : maybe (number 0 4294967295) (get_member (codes "flow_id") m) ≡ Ok e.flow_id
+      = beside_off (is_some (get_member (codes "direct") m)) (maybe (number 0 4294967295) (get_member (codes "flow_id") m)) e.flow_id read.id in
+      let every : maybe (number 1 1000000) (get_member (codes "every") m) ≡ Ok e.every
+      = beside_off (is_some (get_member (codes "direct") m)) (maybe (number 1 1000000) (get_member (codes "every") m)) e.every read.every in
       record {
-        kind = maybe_for direct_type (λ k. is_direct_type k ≡ true) (λ d n read. passed is_direct_type (number 0 16777215 d) n read) (get_member (codes "direct") m) x direct;
+        kind = maybe_for direct_type (λ k. is_direct_type k ≡ true) (λ d n read. passed is_direct_type (number 0 16777215 d) n read) (get_member (codes "direct") m) e.direct direct;
         below = maybe_for direct_type (λ k. k < 2 ^ 24) (λ d n read.
-            let most = (number_bounds 0 16777215 d n (passed_from is_direct_type (number 0 16777215 d) n read)).1 in omega (arith, most)) (get_member (codes "direct") m) x direct;
-        least = maybe_for (number 1 1000000) (λ n. 1 ≤ n) (λ d n read. (number_bounds 1 1000000 d n read).0) (get_member (codes "every") m) y every;
-        most = maybe_for (number 1 1000000) (λ n. n ≤ 1000000) (λ d n read. (number_bounds 1 1000000 d n read).1) (get_member (codes "every") m) y every;
-        counted = paired direct_type (number 1 1000000) others (get_member (codes "direct") m) (get_member (codes "every") m) x y
-            (λ on. or_left (is_some (get_member (codes "every") m)) (is_some (get_member (codes "flow_id") m)) on) a b;
-        named = paired direct_type (number 0 4294967295) others (get_member (codes "direct") m) (get_member (codes "flow_id") m) x z
-            (λ on. or_right (is_some (get_member (codes "every") m)) (is_some (get_member (codes "flow_id") m)) on) a c;
-        id = maybe_for (number 0 4294967295) (λ n. n < 2 ^ 32) (λ d n read. let most = (number_bounds 0 4294967295 d n read).1 in omega (arith, most)) (get_member (codes "flow_id") m) z id;
-      }) is
-
-flow_read : (a : Result (List ℕ) Why) (b : Result Selection Why) (c : Result Outer Why) (d : Result Tracing Why) (e : Result Exporting Why) (flow : Flow)
-    → ((s : Selection) → b ≡ Ok s → IsSelection s) → ((o : Outer) → c ≡ Ok o → IsOuter o) → ((t : Tracing) → d ≡ Ok t → IsTracing t) → ((x : Exporting) → e ≡ Ok x → IsExporting x)
-    → a ▷ (λ name. b ▷ (λ s. c ▷ (λ o. d ▷ (λ t. e ▷ (λ x. Ok (flow_with name s o t x)))))) ≡ Ok flow → IsFlow flow
-flow_read (Ok n) (Ok s) (Ok o) (Ok t) (Ok x) flow chosen around traced exported is =
-    let same : flow_with n s o t x ≡ flow = cc in
-    let k : IsSelection s = chosen s refl in
-    let f : IsOuter o = around o refl in
-    let g : IsTracing t = traced t refl in
-    let h : IsExporting x = exported x refl in
-    subst IsFlow same (record {
-      source = k.source;
-      target = k.target;
-      namespace_below = let most = k.namespace in omega (arith, most);
-      hops_some = f.hops.0;
-      hops_below = let most = f.hops.1 in omega (arith, most);
-      label_most = f.label;
-      trace_type = g.kind;
-      capacity_some = g.least;
-      capacity_most = g.most;
-      trace_room = g.both;
-      own_first = own_first (record { 0 = s.namespace }) t.trace t.capacity;
-      few_traces = let few = own_few (record { 0 = s.namespace }) t.trace t.capacity in omega (arith, few);
-      traces_sound = own_sound (record { 0 = s.namespace }) t.trace t.capacity g.kind g.least g.most;
-      traces_apart = own_apart (record { 0 = s.namespace }) t.trace t.capacity;
-      edge_some = g.edge_least;
-      edge_type = g.edge_kind;
-      direct_type = h.kind;
-      direct_below = h.below;
-      every_some = h.least;
-      every_most = h.most;
-      direct_every = h.counted;
-      direct_id = h.named;
-      id_below = h.id;
-    })
-flow_read (Ok n) (Ok s) (Ok o) (Ok t) (Err why) flow chosen around traced exported is = cc
-flow_read (Ok n) (Ok s) (Ok o) (Err why) e flow chosen around traced exported is = cc
-flow_read (Ok n) (Ok s) (Err why) d e flow chosen around traced exported is = cc
-flow_read (Ok n) (Err why) c d e flow chosen around traced exported is = cc
-flow_read (Err why) b c d e flow chosen around traced exported is = cc
+            let most = (number_bounds 0 16777215 d n (passed_from is_direct_type (number 0 16777215 d) n read)).1 in omega (arith, most)) (get_member (codes "direct") m) e.direct direct;
+        least = maybe_for (number 1 1000000) (λ n. 1 ≤ n) (λ d n read. (number_bounds 1 1000000 d n read).0) (get_member (codes "every") m) e.every every;
+        most = maybe_for (number 1 1000000) (λ n. n ≤ 1000000) (λ d n read. (number_bounds 1 1000000 d n read).1) (get_member (codes "every") m) e.every every;
+        counted = paired direct_type (number 1 1000000) others (get_member (codes "direct") m) (get_member (codes "every") m) e.direct e.every
+            (λ on. or_left (is_some (get_member (codes "every") m)) (is_some (get_member (codes "flow_id") m)) on) read.direct read.every;
+        named = paired direct_type (number 0 4294967295) others (get_member (codes "direct") m) (get_member (codes "flow_id") m) e.direct e.flow_id
+            (λ on. or_right (is_some (get_member (codes "every") m)) (is_some (get_member (codes "flow_id") m)) on) read.direct read.id;
+        id = maybe_for (number 0 4294967295) (λ n. n < 2 ^ 32) (λ d n read. let most = (number_bounds 0 4294967295 d n read).1 in omega (arith, most)) (get_member (codes "flow_id") m) e.flow_id id;
+      }
 
 -- a namespace that a node knows is the number that was read
 known_keeps : (list : Result (List Namespace) Why) (n x : ℕ) → known_in list n ≡ Ok x → n ≡ x
@@ -203,12 +131,46 @@ module _ (nodes : List (List ℕ)) (lists : List (Result (List Namespace) Why)) 
       (needed_bounds 0 65535 (get_member (codes "namespace") m) x (known_from lists (flow_entry nodes lists m) read x entry)).1
 
   selection_facts : (m : Members) (s : Selection) → selection_of nodes lists m ≡ Ok s → IsSelection s
-  selection_facts m s is = selection_read (flow_entry nodes lists m) (flow_exit nodes lists m) (flow_source m) (flow_target m) (flow_space nodes lists m) s
-      (key_is_prefix (get_member (codes "source") m)) (key_is_prefix (get_member (codes "target") m)) (space_most m) is
+  selection_facts m s is =
+      let read = selection_read nodes lists m s is in
+      record {
+        source = key_is_prefix (get_member (codes "source") m) s.source read.source;
+        target = key_is_prefix (get_member (codes "target") m) s.target read.target;
+        namespace = space_most m s.namespace read.space;
+      }
 
   flow_facts : (m : Members) (flow : Flow) → flow_of nodes lists m ≡ Ok flow → IsFlow flow
-  flow_facts m flow is = flow_read (flow_name m) (selection_of nodes lists m) (outer_of m) (tracing_of m) (exporting_of m) flow
-      (selection_facts m) (outer_facts m) (tracing_facts m) (exporting_facts m) is
+  flow_facts m flow is =
+      let read = flow_read nodes lists m flow is in
+      let k = selection_facts m read.s read.selected in
+      let f = outer_facts m read.o read.around in
+      let g = tracing_facts m read.t read.traced in
+      let h = exporting_facts m read.e read.exported in
+      subst IsFlow read.is (record {
+        source = k.source;
+        target = k.target;
+        namespace_below = let most = k.namespace in omega (arith, most);
+        hops_some = f.hops.0;
+        hops_below = let most = f.hops.1 in omega (arith, most);
+        label_most = f.label;
+        trace_type = g.kind;
+        capacity_some = g.least;
+        capacity_most = g.most;
+        trace_room = g.both;
+        own_first = own_first (record { 0 = read.s.namespace }) read.t.trace read.t.capacity;
+        few_traces = let few = own_few (record { 0 = read.s.namespace }) read.t.trace read.t.capacity in omega (arith, few);
+        traces_sound = own_sound (record { 0 = read.s.namespace }) read.t.trace read.t.capacity g.kind g.least g.most;
+        traces_apart = own_apart (record { 0 = read.s.namespace }) read.t.trace read.t.capacity;
+        edge_some = g.edge_least;
+        edge_type = g.edge_kind;
+        direct_type = h.kind;
+        direct_below = h.below;
+        every_some = h.least;
+        every_most = h.most;
+        direct_every = h.counted;
+        direct_id = h.named;
+        id_below = h.id;
+      })
 
   -- what is true of the flows of entries
   pub flows_sound : (ms : List Members) (flows : List Flow) → flows ≡ goods (flow_of nodes lists) ms → All IsFlow flows

@@ -1,5 +1,5 @@
 -- Laws of the flows that are collected.
-use Rattle.std.proofs.Common.{◌≡◌, ℕ, ◌+◌, List, [], ◌∷◌, ◌++◌, map, length, false, Option, Result, Ok, Err, refl, ap, sym, ◌∙◌, subst}
+use Rattle.std.proofs.Common.{◌≡◌, ℕ, ◌+◌, List, [], ◌∷◌, ◌++◌, map, length, false, Option, Result, Ok, ap, sym, ◌∙◌, subst}
 use Rattle.std.specs.List.{list_any}
 use Rattle.std.specs.Str.{bytes_eq}
 use Rattle.toml.specs.Data.{Members}
@@ -19,9 +19,9 @@ use Rattle.ioam_topo_tables.specs.Flows.{name_of_flow, ids_of_flows}
 use Rattle.ioam_topo.proofs.KeyLaws.{map_append}
 use Rattle.std.proofs.lemmas.List.{append_assoc, append-nil}
 use Rattle.ioam_topo_flows.specs.FlowTable.{FlowLook, flow_keys, flow_faults, flow_of, flow_with, flow_name, flow_look, flow_key, id_key}
-use Rattle.ioam_topo_flows.specs.FlowParts.{flow_entry, flow_exit, flow_source, flow_target, flow_space, flow_trace, flow_capacity, flow_edge, selection_of, outer_of, tracing_of, exporting_of}
+use Rattle.ioam_topo_flows.specs.FlowParts.{flow_entry, flow_exit, flow_space, flow_trace, selection_of, outer_of, tracing_of, exporting_of}
 use Rattle.ioam_topo_flows.specs.FlowRead.{HoldsFlows, IsNewFlow, IsNewExport, look_of}
-use Rattle.ioam_topo_flows.proofs.FlowKept.{selected}
+use Rattle.ioam_topo_flows.proofs.PartLaws.{selection_read, tracing_read}
 use Rattle.ioam_topo_entries.proofs.KeyLaws.{kept_by}
 use Rattle.ioam_topo_entries.proofs.GoodsLaws.{goods_push, kept_append}
 
@@ -68,13 +68,6 @@ look_read : (n : Result (List ℕ) Why) (a b c : Result ℕ Why) (d : Result (Op
     → n ▷ (λ name. Ok (look a b c d)) ≡ Ok (look (Ok s.entry) (Ok s.exit) (Ok s.namespace) (Ok t.trace))
 look_read n a b c d name s t read ends space trace = rw (read, ends.0, ends.1, space, trace)
 
-traced_first : (a b c : Result (Option ℕ) Why) (t : Tracing)
-    → a ▷ (λ trace. b ▷ (λ capacity. c ▷ (λ edge. Ok (record { trace = trace; capacity = capacity; edge = edge })))) ≡ Ok t → a ≡ Ok t.trace
-traced_first (Ok x) (Ok y) (Ok z) t is = let P : Result Tracing Why → Type 0 = λ r. Ok x ≡ r ▷ (λ t. Ok t.trace) in subst P is refl
-traced_first (Ok x) (Ok y) (Err why) t is = cc
-traced_first (Ok x) (Err why) c t is = cc
-traced_first (Err why) b c t is = cc
-
 module _ (nodes : List (List ℕ)) (lists : List (Result (List Namespace) Why)) where
   -- the flow of parts that were read
   pub new_flow : (flows : Flows) (m : Members) (text name : List ℕ) (s : Selection) (o : Outer) (t : Tracing) (e : Exporting) (flow : Flow)
@@ -83,13 +76,13 @@ module _ (nodes : List (List ℕ)) (lists : List (Result (List Namespace) Why)) 
       → IsNewExport s.namespace flows.taken.keys m e → IsNewFlow nodes lists flows m text flow
   new_flow flows m text name s o t e flow made named read fresh selected_is space around traced exported =
       let named_read : flow_name m ≡ Ok name = read ∙ ap Ok (sym named) in
+      let keys = selection_read nodes lists m s selected_is in
       let whole : IsNewFlow nodes lists flows m text (flow_with name s o t e) = record {
         name = named;
         is = flow_is (flow_name m) (selection_of nodes lists m) (outer_of m) (tracing_of m) (exporting_of m) name s o t e named_read selected_is around traced exported.is;
         name_is = named_read;
         look_is = look_read (flow_name m) (flow_entry nodes lists m) (flow_exit nodes lists m) (flow_space nodes lists m) (flow_trace m) name s t named_read
-            (selected (flow_entry nodes lists m) (flow_exit nodes lists m) (flow_source m) (flow_target m) (flow_space nodes lists m) s selected_is)
-            space (traced_first (flow_trace m) (flow_capacity m) (flow_edge m) t traced);
+            (keys.entry, keys.exit) space (tracing_read m t traced).trace;
         new_name = fresh;
         key_is = ap (λ (r : Result ℕ Why). kept (id_key r m) []) space ∙ exported.key_is;
         new_id = exported.new_id;

@@ -1,6 +1,7 @@
 pub mod DataLaws
 pub mod DataKept
 pub mod SpaceLaws
+pub mod PartLaws
 pub mod FlowLaws
 pub mod FlowFacts
 pub mod FlowKept

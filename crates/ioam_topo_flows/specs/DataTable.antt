@@ -9,10 +9,9 @@ use Rattle.ioam_topo_values.specs.Texts.{name}
 use Rattle.ioam_topo_values.specs.Octets.{octets}
 use Rattle.ioam_topo_values.specs.Entries.{entries}
 use Rattle.ioam_topo_entries.specs.declared.words.Table.TheVariants.{DataTable}
-use Rattle.ioam_topo_entries.specs.declared.words.Field.TheVariants.{OtherKey, NodeKey, NamespaceKey, ShortKey, WideKey, SchemaKey, SnapshotKey}
 use Rattle.ioam_topo_entries.specs.declared.fault.DomainFault.{DomainFault}
 use Rattle.ioam_topo.specs.declared.parts.NodeData.{NodeData}
-use Rattle.ioam_topo_entries.specs.Faults.{at}
+use Rattle.ioam_topo_entries.specs.Faults.{at, other_key}
 use Rattle.ioam_topo_entries.specs.Goods.{goods, known}
 use Rattle.ioam_topo_flows.specs.Apart.{fresh_with}
 use Rattle.ioam_topo_entries.specs.Keys.{own_keys}
@@ -48,8 +47,8 @@ values_of node space m = data_short m ▷ (λ short. data_wide m ▷ (λ wide. d
 
 -- the faults of these keys
 abbrev pub value_keys : ℕ → Members → List DomainFault
-value_keys place m = at DataTable place ShortKey (data_short m) ++ (at DataTable place WideKey (data_wide m)
-    ++ (at DataTable place SchemaKey (data_schema m) ++ at DataTable place SnapshotKey (data_snapshot m)))
+value_keys place m = at DataTable place (codes "short") (data_short m) ++ (at DataTable place (codes "wide") (data_wide m)
+    ++ (at DataTable place (codes "schema") (data_schema m) ++ at DataTable place (codes "snapshot") (data_snapshot m)))
 
 -- `nodes` are the names of the nodes
 module _ (nodes : List (List ℕ)) where
@@ -68,9 +67,9 @@ module _ (nodes : List (List ℕ)) where
   -- the faults of the entry at a place, with these nodes and namespaces before it
   abbrev pub data_keys : ℕ → List (ℕ × ℕ) → Members → List DomainFault
   data_keys place seen m =
-      at DataTable place OtherKey (own_keys DataTable m)
-      ++ (at DataTable place NodeKey (data_node m)
-      ++ (at DataTable place NamespaceKey (data_space m ▷ fresh_with (data_node m) seen)
+      at DataTable place other_key (own_keys DataTable m)
+      ++ (at DataTable place (codes "node") (data_node m)
+      ++ (at DataTable place (codes "namespace") (data_space m ▷ fresh_with (data_node m) seen)
       ++ value_keys place m))
 
   -- the faults of an entry behind others

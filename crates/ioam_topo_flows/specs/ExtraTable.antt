@@ -12,9 +12,8 @@ use Rattle.ioam_topo_values.specs.Entries.{entries}
 use Rattle.ioam_topo.specs.declared.parts.Flow.{Flow}
 use Rattle.ioam_topo.specs.declared.traces.FlowTrace.{FlowTrace}
 use Rattle.ioam_topo_entries.specs.declared.words.Table.TheVariants.{ExtraTable}
-use Rattle.ioam_topo_entries.specs.declared.words.Field.TheVariants.{OtherKey, FlowKey, NamespaceKey, TraceKey, CapacityKey}
 use Rattle.ioam_topo_entries.specs.declared.fault.DomainFault.{DomainFault}
-use Rattle.ioam_topo_entries.specs.Faults.{at}
+use Rattle.ioam_topo_entries.specs.Faults.{at, other_key}
 use Rattle.ioam_topo_entries.specs.Goods.{goods, known}
 use Rattle.ioam_topo_entries.specs.Keys.{own_keys}
 use Rattle.ioam_topo_flows.specs.Apart.{fresh_with}
@@ -69,7 +68,7 @@ extra_capacity m = needed (number 1 61) (get_member (codes "capacity") m)
 
 -- the faults of a trace's type and capacity
 abbrev pub kind_keys : ℕ → Members → List DomainFault
-kind_keys place m = at ExtraTable place TraceKey (extra_trace m) ++ at ExtraTable place CapacityKey (extra_capacity m)
+kind_keys place m = at ExtraTable place (codes "trace") (extra_trace m) ++ at ExtraTable place (codes "capacity") (extra_capacity m)
 
 -- `flows` are the names of the flows, `looks` what is known of them, and `lists` the namespaces that the nodes list
 module _ (flows : List (List ℕ)) (looks : List FlowLook) (lists : List (Result (List Namespace) Why)) where
@@ -97,9 +96,9 @@ module _ (flows : List (List ℕ)) (looks : List FlowLook) (lists : List (Result
   -- the faults of the entry at a place, with these flows, and these namespaces of flows, before it
   abbrev pub extra_keys : ℕ → List ℕ → List (ℕ × ℕ) → Members → List DomainFault
   extra_keys place before taken m =
-      at ExtraTable place OtherKey (own_keys ExtraTable m)
-      ++ (at ExtraTable place FlowKey (extra_flow m ▷ few_of before)
-      ++ (at ExtraTable place NamespaceKey (extra_space m ▷ unlike (extra_look m).space ▷ fresh_with (extra_flow m) taken)
+      at ExtraTable place other_key (own_keys ExtraTable m)
+      ++ (at ExtraTable place (codes "flow") (extra_flow m ▷ few_of before)
+      ++ (at ExtraTable place (codes "namespace") (extra_space m ▷ unlike (extra_look m).space ▷ fresh_with (extra_flow m) taken)
       ++ kind_keys place m))
 
   -- the faults of an entry behind others

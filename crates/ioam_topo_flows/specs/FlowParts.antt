@@ -11,7 +11,6 @@ use Rattle.ioam_topo_values.specs.Texts.{name}
 use Rattle.ioam_topo_values.specs.Prefixes.{prefix}
 use Rattle.ioam_topo_values.specs.Types.{trace_type, direct_type, edge_type}
 use Rattle.ioam_topo_entries.specs.declared.words.Table.TheVariants.{FlowTable}
-use Rattle.ioam_topo_entries.specs.declared.words.Field.TheVariants.{EntryKey, ExitKey, SourceKey, TargetKey, NamespaceKey, HopsKey, LabelKey, TraceKey, CapacityKey, EdgeKey, DirectKey, EveryKey, FlowIdKey, LimitKey}
 use Rattle.ioam_topo_entries.specs.declared.fault.DomainFault.{DomainFault}
 use Rattle.ioam_topo_flows.specs.declared.flow_parts.Selection.{Selection}
 use Rattle.ioam_topo_flows.specs.declared.flow_parts.Outer.{Outer}
@@ -73,7 +72,7 @@ outer_of m = flow_hops m ▷ (λ hops. flow_label m ▷ (λ label. Ok (record { 
 
 -- the faults of the outer header's keys
 abbrev pub outer_keys : ℕ → Members → List DomainFault
-outer_keys place m = at FlowTable place HopsKey (flow_hops m) ++ at FlowTable place LabelKey (flow_label m)
+outer_keys place m = at FlowTable place (codes "hops") (flow_hops m) ++ at FlowTable place (codes "label") (flow_label m)
 
 -- the options that every packet carries
 abbrev pub tracing_of : Members → Result Tracing Why
@@ -82,7 +81,7 @@ tracing_of m = flow_trace m ▷ (λ trace. flow_capacity m ▷ (λ capacity. flo
 
 -- the faults of the keys of the options that every packet carries
 abbrev pub tracing_keys : ℕ → Members → List DomainFault
-tracing_keys place m = at FlowTable place TraceKey (flow_trace m) ++ (at FlowTable place CapacityKey (flow_capacity m) ++ at FlowTable place EdgeKey (flow_edge m))
+tracing_keys place m = at FlowTable place (codes "trace") (flow_trace m) ++ (at FlowTable place (codes "capacity") (flow_capacity m) ++ at FlowTable place (codes "edge") (flow_edge m))
 
 -- the option that some packets carry, and the tunnel's limit
 abbrev pub exporting_of : Members → Result Exporting Why
@@ -92,10 +91,10 @@ exporting_of m = flow_direct m ▷ (λ direct. flow_every m ▷ (λ every. flow_
 -- the same with the ids of each namespace before it, where the namespace is read
 abbrev pub exporting_keys : ℕ → Result ℕ Why → List (ℕ × ℕ) → Members → List DomainFault
 exporting_keys place space seen m =
-    at FlowTable place DirectKey (flow_direct m)
-    ++ (at FlowTable place EveryKey (flow_every m)
-    ++ (at FlowTable place FlowIdKey (flow_id m ▷ fresh_some space seen)
-    ++ at FlowTable place LimitKey (flow_limit m)))
+    at FlowTable place (codes "direct") (flow_direct m)
+    ++ (at FlowTable place (codes "every") (flow_every m)
+    ++ (at FlowTable place (codes "flow_id") (flow_id m ▷ fresh_some space seen)
+    ++ at FlowTable place (codes "limit") (flow_limit m)))
 
 -- `nodes` are the names of the nodes, and `lists` the namespaces that these list
 module _ (nodes : List (List ℕ)) (lists : List (Result (List Namespace) Why)) where
@@ -119,8 +118,8 @@ module _ (nodes : List (List ℕ)) (lists : List (Result (List Namespace) Why)) 
   -- the faults of the keys that say which packets are enclosed
   abbrev pub selection_keys : ℕ → Members → List DomainFault
   selection_keys place m =
-      at FlowTable place EntryKey (flow_entry m)
-      ++ (at FlowTable place ExitKey (flow_exit m)
-      ++ (at FlowTable place SourceKey (flow_source m)
-      ++ (at FlowTable place TargetKey (flow_target m)
-      ++ at FlowTable place NamespaceKey (flow_space m))))
+      at FlowTable place (codes "entry") (flow_entry m)
+      ++ (at FlowTable place (codes "exit") (flow_exit m)
+      ++ (at FlowTable place (codes "source") (flow_source m)
+      ++ (at FlowTable place (codes "target") (flow_target m)
+      ++ at FlowTable place (codes "namespace") (flow_space m))))

@@ -9,7 +9,6 @@ use Rattle.ioam_topo_values.specs.Numbers.{number}
 use Rattle.ioam_topo_values.specs.Texts.{name}
 use Rattle.ioam_topo_values.specs.Entries.{entries}
 use Rattle.ioam_topo_entries.specs.declared.words.Table.TheVariants.{FlowTable}
-use Rattle.ioam_topo_entries.specs.declared.words.Field.TheVariants.{OtherKey, NameKey}
 use Rattle.ioam_topo_entries.specs.declared.fault.DomainFault.{DomainFault}
 use Rattle.ioam_topo.specs.declared.parts.Flow.{Flow}
 use Rattle.ioam_topo.specs.Traces.{own_traces}
@@ -17,7 +16,7 @@ use Rattle.ioam_topo_flows.specs.declared.flow_parts.Selection.{Selection}
 use Rattle.ioam_topo_flows.specs.declared.flow_parts.Outer.{Outer}
 use Rattle.ioam_topo_flows.specs.declared.flow_parts.Tracing.{Tracing}
 use Rattle.ioam_topo_flows.specs.declared.flow_parts.Exporting.{Exporting}
-use Rattle.ioam_topo_entries.specs.Faults.{at}
+use Rattle.ioam_topo_entries.specs.Faults.{at, other_key}
 use Rattle.ioam_topo_entries.specs.Goods.{goods, fresh}
 use Rattle.ioam_topo_entries.specs.Keys.{own_keys}
 use Rattle.ioam_topo_flows.specs.FlowParts.{flow_entry, flow_exit, flow_space, flow_trace, selection_of, selection_keys, outer_of, outer_keys, tracing_of, tracing_keys, exporting_of, exporting_keys}
@@ -80,8 +79,8 @@ module _ (nodes : List (List ℕ)) (lists : List (Result (List Namespace) Why)) 
   -- the faults of the entry at a place, with these names, and these ids of namespaces, before it
   abbrev pub flow_keys : ℕ → List (List ℕ) → List (ℕ × ℕ) → Members → List DomainFault
   flow_keys place names seen m =
-      at FlowTable place OtherKey (own_keys FlowTable m)
-      ++ (at FlowTable place NameKey (flow_name m ▷ fresh bytes_eq names)
+      at FlowTable place other_key (own_keys FlowTable m)
+      ++ (at FlowTable place (codes "name") (flow_name m ▷ fresh bytes_eq names)
       ++ (selection_keys nodes lists place m ++ (outer_keys place m ++ (tracing_keys place m
       ++ exporting_keys place (flow_space nodes lists m) seen m))))
 

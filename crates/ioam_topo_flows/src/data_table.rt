@@ -11,9 +11,7 @@ ghost use Rattle.ioam_topo_flows.specs.DataRead.{IsNewData};
 use crate::before::AmongNodes;
 use ioam_data::Namespace;
 use ioam_topo::{NodeData, NodeId, Octets};
-use ioam_topo_entries::{
-    Collects, DomainRefused, Field, Spot, Table, known, maybe_number32, number16, own_keys,
-};
+use ioam_topo_entries::{Collects, DomainRefused, Spot, Table, maybe_number32, number16};
 use ioam_topo_tables::{DataRows, Nodes};
 use ioam_topo_values::{Refused, Why, beside, has, maybe_number, maybe_octets};
 use std::alloc::Global;
@@ -54,14 +52,11 @@ fn read_values(
     ensures { Gives result (value_keys spot.place (table_view entry.now)) (λ row. (values_of node space (table_view entry.now) ≡ Ok row)
         × (row.node.0 ≡ node) × (row.namespace.0 ≡ space)) }
 {
-    let short = spot.key(
-        Field::ShortKey,
-        maybe_number32(entry, "short", 0, 4_294_967_295),
-    )?;
-    let wide = spot.key(Field::WideKey, maybe_number(entry, "wide", 0, MOST_WIDE))?;
+    let short = spot.key("short", maybe_number32(entry, "short", 0, 4_294_967_295))?;
+    let wide = spot.key("wide", maybe_number(entry, "wide", 0, MOST_WIDE))?;
     let schema = maybe_number32(entry, "schema", 0, 16_777_214);
-    let schema = spot.key(Field::SchemaKey, beside(schema, has(entry, "snapshot")))?;
-    let snapshot = spot.key_or(Field::SnapshotKey, snapshot(alloc, entry))?;
+    let schema = spot.key("schema", beside(schema, has(entry, "snapshot")))?;
+    let snapshot = spot.key_or("snapshot", snapshot(alloc, entry))?;
     Ok(NodeData {
         node: NodeId(node),
         namespace: Namespace(space),
@@ -86,9 +81,9 @@ fn read_row(
         table: Table::DataTable,
         place,
     };
-    spot.key(Field::OtherKey, own_keys(Table::DataTable, entry))?;
-    let node = spot.key(Field::NodeKey, known(&nodes.names, entry, "node"))?;
-    let space = spot.key(Field::NamespaceKey, new_space(rows, node, entry))?;
+    spot.own_keys(entry)?;
+    let node = spot.known(&nodes.names, entry, "node")?;
+    let space = spot.key("namespace", new_space(rows, node, entry))?;
     read_values(alloc, spot, node, space, entry)
 }
 

@@ -22,9 +22,7 @@ use indexmap::IndexSet;
 use ioam_base::memory::NoMemory;
 use ioam_data::{Namespace, TraceType};
 use ioam_topo::{Flow, FlowTrace};
-use ioam_topo_entries::{
-    Collects, DomainRefused, Field, Spot, Table, known, number8, number16, own_keys,
-};
+use ioam_topo_entries::{Collects, DomainRefused, Spot, Table, known, number16};
 use ioam_topo_tables::{Flows, Nodes};
 use ioam_topo_values::{Why, maybe_trace_type};
 use std::alloc::Global;
@@ -179,8 +177,8 @@ fn read_kind(spot: Spot, entry: &toml::Table) -> Result<(TraceType, u8), DomainR
     ensures { Gives result (kind_keys spot.place (table_view entry.now))
         (λ read. (extra_trace (table_view entry.now) ≡ Ok read.0) × (extra_capacity (table_view entry.now) ≡ Ok read.1)) }
 {
-    let kind = spot.key(Field::TraceKey, needed_trace(entry))?;
-    let capacity = spot.key(Field::CapacityKey, number8(entry, "capacity", 1, 61))?;
+    let kind = spot.key("trace", needed_trace(entry))?;
+    let capacity = spot.number8(entry, "capacity", 1, 61)?;
     Ok((kind, capacity))
 }
 
@@ -199,10 +197,10 @@ fn read_extra(
         table: Table::ExtraTable,
         place,
     };
-    spot.key(Field::OtherKey, own_keys(Table::ExtraTable, entry))?;
-    let flow = spot.key(Field::FlowKey, few_of(extras, named_flow(flows, entry)))?;
+    spot.own_keys(entry)?;
+    let flow = spot.key("flow", few_of(extras, named_flow(flows, entry)))?;
     let space = new_space(extras, nodes, flows, flow, entry);
-    let space = spot.key(Field::NamespaceKey, space)?;
+    let space = spot.key("namespace", space)?;
     let (kind, capacity) = read_kind(spot, entry)?;
     Ok((
         flow,

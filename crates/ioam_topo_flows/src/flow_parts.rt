@@ -12,10 +12,7 @@ ghost use Rattle.ioam_topo_flows.specs.FlowParts.{flow_trace, flow_capacity, flo
 
 use ioam_data::TraceType;
 use ioam_topo::Prefix;
-use ioam_topo_entries::{
-    DomainRefused, Field, Spot, Table, known, known_other, maybe_number8, maybe_number32, number8,
-    number16, number32_or_0,
-};
+use ioam_topo_entries::{DomainRefused, Spot, Table, maybe_number8, maybe_number32, number16};
 use ioam_topo_tables::Nodes;
 use ioam_topo_values::{
     Why, beside, has, maybe_direct_type, maybe_edge_type, maybe_trace_type, prefix,
@@ -76,15 +73,12 @@ pub(crate) fn read_selection(
         (λ s. (selection_of nodes.now.names (map list_of nodes.now.items.items) (table_view entry.now) ≡ Ok s)
         × (flow_space nodes.now.names (map list_of nodes.now.items.items) (table_view entry.now) ≡ Ok s.namespace)) }
 {
-    let first = spot.key(Field::EntryKey, known(&nodes.names, entry, "entry"))?;
-    let exit = spot.key(
-        Field::ExitKey,
-        known_other(&nodes.names, entry, "exit", first),
-    )?;
-    let source = spot.key(Field::SourceKey, prefix(entry, "source"))?;
-    let target = spot.key(Field::TargetKey, prefix(entry, "target"))?;
+    let first = spot.known(&nodes.names, entry, "entry")?;
+    let exit = spot.known_other(&nodes.names, entry, "exit", first)?;
+    let source = spot.key("source", prefix(entry, "source"))?;
+    let target = spot.key("target", prefix(entry, "target"))?;
     let known = known_at(nodes, first, number16(entry, "namespace"));
-    let namespace = spot.key(Field::NamespaceKey, known_at(nodes, exit, known))?;
+    let namespace = spot.key("namespace", known_at(nodes, exit, known))?;
     Ok(Selection {
         entry: first,
         exit,
@@ -98,8 +92,8 @@ pub(crate) fn read_outer(spot: Spot, entry: &toml::Table) -> Result<Outer, Domai
     requires { spot.table ≡ Table.FlowTable }
     ensures { Gives result (outer_keys spot.place (table_view entry.now)) (λ o. outer_of (table_view entry.now) ≡ Ok o) }
 {
-    let hops = spot.key(Field::HopsKey, number8(entry, "hops", 1, 255))?;
-    let label = spot.key(Field::LabelKey, number32_or_0(entry, "label", 1_048_575))?;
+    let hops = spot.number8(entry, "hops", 1, 255)?;
+    let label = spot.number32_or_0(entry, "label", 1_048_575)?;
     Ok(Outer { hops, label })
 }
 
@@ -119,9 +113,9 @@ pub(crate) fn read_tracing(spot: Spot, entry: &toml::Table) -> Result<Tracing, D
     requires { spot.table ≡ Table.FlowTable }
     ensures { Gives result (tracing_keys spot.place (table_view entry.now)) (λ t. tracing_of (table_view entry.now) ≡ Ok t) }
 {
-    let trace = spot.key(Field::TraceKey, trace(entry))?;
-    let capacity = spot.key(Field::CapacityKey, capacity(entry))?;
-    let edge = spot.key(Field::EdgeKey, maybe_edge_type(entry, "edge"))?;
+    let trace = spot.key("trace", trace(entry))?;
+    let capacity = spot.key("capacity", capacity(entry))?;
+    let edge = spot.key("edge", maybe_edge_type(entry, "edge"))?;
     Ok(Tracing {
         trace,
         capacity,

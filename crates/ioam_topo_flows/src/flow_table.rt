@@ -18,9 +18,7 @@ use ioam_base::memory::NoMemory;
 use ioam_base::name::Name;
 use ioam_data::Namespace;
 use ioam_topo::{Flow, NodeId, Traces};
-use ioam_topo_entries::{
-    Collects, DomainRefused, Field, Spot, Table, maybe_number8, maybe_number32, new_name, own_keys,
-};
+use ioam_topo_entries::{Collects, DomainRefused, Spot, Table, maybe_number8, maybe_number32};
 use ioam_topo_tables::{Flows, Nodes};
 use ioam_topo_values::{Why, beside, has};
 use std::alloc::Global;
@@ -82,10 +80,10 @@ fn exporting(
     ensures { Gives result (exporting_keys spot.place (Ok space) flows.now.taken.keys (table_view entry.now))
         (IsNewExport space flows.now.taken.keys (table_view entry.now)) }
 {
-    let direct = spot.key(Field::DirectKey, direct(entry))?;
-    let every = spot.key(Field::EveryKey, every(entry))?;
-    let flow_id = spot.key(Field::FlowIdKey, new_id(flows, space, entry))?;
-    let limit = spot.key(Field::LimitKey, maybe_number8(entry, "limit", 0, 255))?;
+    let direct = spot.key("direct", direct(entry))?;
+    let every = spot.key("every", every(entry))?;
+    let flow_id = spot.key("flow_id", new_id(flows, space, entry))?;
+    let limit = spot.key("limit", maybe_number8(entry, "limit", 0, 255))?;
     Ok(Exporting {
         direct,
         every,
@@ -109,8 +107,8 @@ fn read_flow<'a>(
         table: Table::FlowTable,
         place,
     };
-    spot.key(Field::OtherKey, own_keys(Table::FlowTable, entry))?;
-    let text = spot.key(Field::NameKey, new_name(&flows.names, entry, "name"))?;
+    spot.own_keys(entry)?;
+    let text = spot.new_name(&flows.names, entry, "name")?;
     let selection = read_selection(spot, nodes, entry)?;
     let outer = read_outer(spot, entry)?;
     let tracing = read_tracing(spot, entry)?;

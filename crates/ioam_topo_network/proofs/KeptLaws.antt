@@ -7,8 +7,8 @@ use Rattle.ioam_topo_values.specs.declared.why.Why.TheVariants.{Unknown}
 use Rattle.ioam_topo.specs.declared.prefix.Prefix.{Prefix}
 use Rattle.ioam_topo.specs.Prefixes.{IsPrefix}
 use Rattle.ioam_topo_values.proofs.PrefixSpelledLaws.{key_is_prefix}
-use Rattle.ioam_topo_values.specs.Reads.{◌▷◌, needed, maybe}
-use Rattle.ioam_topo_values.specs.Texts.{name, file_name}
+use Rattle.ioam_topo_values.specs.Reads.{◌▷◌, needed}
+use Rattle.ioam_topo_values.specs.Texts.{name}
 use Rattle.ioam_topo.specs.declared.ids.Way.{Way}
 use Rattle.ioam_topo.specs.declared.ids.Way.TheVariants.{Link as ByLink, Port as ByPort}
 use Rattle.ioam_topo.specs.declared.parts.Link.{Link}
@@ -16,94 +16,44 @@ use Rattle.ioam_topo.specs.declared.parts.Port.{Port}
 use Rattle.ioam_topo.specs.declared.parts.Route.{Route}
 use Rattle.ioam_topo_entries.specs.Goods.{known, differs, agrees, read_at}
 use Rattle.ioam_topo_entries.proofs.GoodsLaws.{known_below, differs_apart}
-use Rattle.ioam_topo_network.specs.LinkTable.{link_of, link_from, link_to, link_name, link_out_id, link_in_id, link_delay, link_mtu}
+use Rattle.ioam_topo_entries.proofs.NumberLaws.{read_first}
+use Rattle.ioam_topo_network.proofs.LinkLaws.{link_read}
+use Rattle.ioam_topo_network.specs.LinkTable.{link_of}
 use Rattle.ioam_topo_network.specs.PortTable.{port_of, port_node, port_name, port_id, port_input, port_output}
 use Rattle.ioam_topo_network.specs.RouteTable.{route_of, route_node, route_prefix, route_link, route_port, link_in, port_in, link_part, port_part, alone, way_of}
 use Rattle.ioam_topo_network.specs.LinkRead.{from_of}
 use Rattle.ioam_topo_network.specs.PortRead.{node_of_port}
 use Rattle.ioam_topo.specs.Kept.{JoinsNodes, IsAtNode, IsRouteOf, is_of, is_way_from}
 
--- the numbers of a link are those that its keys read as
-pub record IsLinkRead (from to out_id in_id delay mtu : Result ℕ Why) (link : Link) : Type 0 where
-  pub from_is : from ≡ Ok link.from.0
-  pub to_is : to ≡ Ok link.to.0
-  pub out_id_is : out_id ≡ Ok link.out_id
-  pub in_id_is : in_id ≡ Ok link.in_id
-  pub delay_is : delay ≡ Ok link.delay
-  pub mtu_is : mtu ≡ Ok link.mtu
-
-link_parts : (a : Result (List ℕ) Why) (b c d e f g : Result ℕ Why) (h : Result (Option (List ℕ)) Why) (link : Link)
-    → a ▷ (λ name. b ▷ (λ from. c ▷ (λ to. d ▷ (λ out_id. e ▷ (λ in_id. f ▷ (λ delay. g ▷ (λ mtu. h ▷ (λ tap.
-    Ok (record { name = name; from = record { 0 = from }; to = record { 0 = to }; out_id = out_id; in_id = in_id; delay = delay; mtu = mtu; tap = tap }))))))))) ≡ Ok link
-    → IsLinkRead b c d e f g link
-link_parts (Err why) b c d e f g h link is = cc
-link_parts (Ok name) (Err why) c d e f g h link is = cc
-link_parts (Ok name) (Ok from) (Err why) d e f g h link is = cc
-link_parts (Ok name) (Ok from) (Ok to) (Err why) e f g h link is = cc
-link_parts (Ok name) (Ok from) (Ok to) (Ok out_id) (Err why) f g h link is = cc
-link_parts (Ok name) (Ok from) (Ok to) (Ok out_id) (Ok in_id) (Err why) g h link is = cc
-link_parts (Ok name) (Ok from) (Ok to) (Ok out_id) (Ok in_id) (Ok delay) (Err why) h link is = cc
-link_parts (Ok name) (Ok from) (Ok to) (Ok out_id) (Ok in_id) (Ok delay) (Ok mtu) (Err why) link is = cc
-link_parts (Ok name) (Ok from) (Ok to) (Ok out_id) (Ok in_id) (Ok delay) (Ok mtu) (Ok tap) link is =
-    let same : record { name = name; from = record { 0 = from }; to = record { 0 = to }; out_id = out_id; in_id = in_id; delay = delay; mtu = mtu; tap = tap } ≡ link = cc in
-    subst (IsLinkRead (Ok from) (Ok to) (Ok out_id) (Ok in_id) (Ok delay) (Ok mtu)) same
-    (record { from_is = refl; to_is = refl; out_id_is = refl; in_id_is = refl; delay_is = refl; mtu_is = refl })
-
-pub link_read : (nodes : List (List ℕ)) (m : Members) (link : Link) → link_of nodes m ≡ Ok link
-    → IsLinkRead (link_from nodes m) (link_to nodes m) (link_out_id m) (link_in_id m) (link_delay m) (link_mtu m) link
-link_read nodes m link is = link_parts (link_name m) (link_from nodes m) (link_to nodes m) (link_out_id m) (link_in_id m) (link_delay m) (link_mtu m)
-    (maybe file_name (get_member (codes "tap") m)) link is
-
 -- a link joins nodes of these names
 pub link_joins : (nodes : List (List ℕ)) (m : Members) (link : Link) → link_of nodes m ≡ Ok link → JoinsNodes (length nodes) link
 link_joins nodes m link is =
-    let read = link_read nodes m link is in
+    let both = link_read nodes m link is in
     let to : needed name (get_member (codes "to") m) ▷ known nodes ▷ differs (Ok link.from.0) ≡ Ok link.to.0 =
-    ap (λ r. needed name (get_member (codes "to") m) ▷ known nodes ▷ differs r) (sym read.from_is) ∙ read.to_is in
+    ap (λ r. needed name (get_member (codes "to") m) ▷ known nodes ▷ differs r) (sym both.0) ∙ both.1 in
     let other : (needed name (get_member (codes "to") m) ▷ known nodes ≡ Ok link.to.0) × (link.from.0 ≢ link.to.0) =
     differs_apart link.from.0 (needed name (get_member (codes "to") m) ▷ known nodes) link.to.0 to in
     record {
-      starts = known_below nodes (needed name (get_member (codes "from") m)) link.from.0 read.from_is;
+      starts = known_below nodes (needed name (get_member (codes "from") m)) link.from.0 both.0;
       ends = known_below nodes (needed name (get_member (codes "to") m)) link.to.0 other.0;
       apart = other.1;
     }
 
-port_parts : (a : Result (List ℕ) Why) (b c : Result ℕ Why) (d : Result (Option (List ℕ)) Why) (e : Result (List ℕ) Why) (port : Port)
-    → a ▷ (λ name. b ▷ (λ node. c ▷ (λ id. d ▷ (λ input. e ▷ (λ output.
-    Ok (record { name = name; node = record { 0 = node }; id = id; input = input; output = output })))))) ≡ Ok port
-    → (b ≡ Ok port.node.0) × (c ≡ Ok port.id)
-port_parts (Err why) b c d e port is = cc
-port_parts (Ok name) (Err why) c d e port is = cc
-port_parts (Ok name) (Ok node) (Err why) d e port is = cc
-port_parts (Ok name) (Ok node) (Ok id) (Err why) e port is = cc
-port_parts (Ok name) (Ok node) (Ok id) (Ok input) (Err why) port is = cc
-port_parts (Ok name) (Ok node) (Ok id) (Ok input) (Ok output) port is =
-    let P : Result Port Why → Type 0 = λ r. (Ok node ≡ r ▷ (λ p. Ok p.node.0)) × (Ok id ≡ r ▷ (λ p. Ok p.id)) in subst P is (refl, refl)
-
+-- the node and the id of a port that was read
 pub port_read : (nodes : List (List ℕ)) (m : Members) (port : Port) → port_of nodes m ≡ Ok port → (port_node nodes m ≡ Ok port.node.0) × (port_id m ≡ Ok port.id)
-port_read nodes m port is = port_parts (port_name m) (port_node nodes m) (port_id m) (port_input m) (port_output m) port is
+port_read nodes m port is =
+    let named = read_first (port_name m) _ port is in
+    let placed = read_first (port_node nodes m) _ port named.2 in
+    let numbered = read_first (port_id m) _ port placed.2 in
+    let put = read_first (port_input m) _ port numbered.2 in
+    let out = read_first (port_output m) _ port put.2 in
+    let same : record { name = named.0; node = record { 0 = placed.0 }; id = numbered.0; input = put.0; output = out.0 } ≡ port = cc in
+    let P : Port → Type 0 = λ p. (port_node nodes m ≡ Ok p.node.0) × (port_id m ≡ Ok p.id) in subst P same (placed.1, numbered.1)
 
 -- a port is at a node of these names
 pub port_placed : (nodes : List (List ℕ)) (m : Members) (port : Port) → port_of nodes m ≡ Ok port → IsAtNode (length nodes) port
-port_placed nodes m port is = known_below nodes (needed name (get_member (codes "node") m)) port.node.0 (port_read nodes m port is).0
-
-with_way : (a : Result ℕ Why) (c d : Result (Option ℕ) Why) (node : ℕ) (p : Prefix) (link port : Option ℕ) (w : Result Way Why) (route : Route)
-    → a ≡ Ok node → c ≡ Ok link → d ≡ Ok port → way_of link port ≡ w → w ▷ (λ way. Ok (record { node = record { 0 = node }; prefix = p; way = way })) ≡ Ok route
-    → (a ≡ Ok route.node.0) × ((l q : Option ℕ) × (c ≡ Ok l) × (d ≡ Ok q) × (way_of l q ≡ Ok route.way))
-with_way a c d node p link port (Err why) route at_node at_link at_port from is = cc
-with_way a c d node p link port (Ok way) route at_node at_link at_port from is =
-    let P : Result Route Why → Type 0 = λ r. (a ≡ r ▷ (λ x. Ok x.node.0)) × (way_of link port ≡ r ▷ (λ x. Ok x.way)) in
-    let both : (a ≡ Ok route.node.0) × (way_of link port ≡ Ok route.way) = subst P is (at_node, from) in
-    (both.0, (link, port, at_link, at_port, both.1))
-
-route_parts : (a : Result ℕ Why) (b : Result Prefix Why) (c d : Result (Option ℕ) Why) (route : Route)
-    → a ▷ (λ node. b ▷ (λ p. c ▷ (λ link. d ▷ (λ port. way_of link port ▷ (λ way. Ok (record { node = record { 0 = node }; prefix = p; way = way })))))) ≡ Ok route
-    → (a ≡ Ok route.node.0) × ((link port : Option ℕ) × (c ≡ Ok link) × (d ≡ Ok port) × (way_of link port ≡ Ok route.way))
-route_parts (Err why) b c d route is = cc
-route_parts (Ok node) (Err why) c d route is = cc
-route_parts (Ok node) (Ok p) (Err why) d route is = cc
-route_parts (Ok node) (Ok p) (Ok link) (Err why) route is = cc
-route_parts (Ok node) (Ok p) (Ok link) (Ok port) route is = with_way (Ok node) (Ok link) (Ok port) node p link port (way_of link port) route refl refl refl refl is
+port_placed nodes m port is = known_below nodes (needed name (get_member (codes "node") m)) port.node.0
+    (port_read nodes m port is).0
 
 part_kind : (kind : Data → Result ℕ Why) (d : Option Data) (port : Bool) (i : ℕ) → link_part kind d port ≡ Ok (Some i) → (x : Data) × (kind x ≡ Ok i)
 part_kind kind None true i is = cc
@@ -173,35 +123,35 @@ module _ (nodes links : List (List ℕ)) (froms : List (Result ℕ Why)) (ports 
       ap (is_way_from link_items port_items node) (sym same) ∙ port_leads i at_port
   way_leads way None None at_link at_port is = cc
 
+-- the keys of a route that was read
+route_read : (nodes links : List (List ℕ)) (froms : List (Result ℕ Why)) (ports : List (List ℕ)) (homes : List (Result ℕ Why)) (m : Members) (route : Route)
+    → route_of nodes links froms ports homes m ≡ Ok route → (route_node nodes links froms ports homes m ≡ Ok route.node.0) × (route_prefix m ≡ Ok route.prefix)
+    × ((link port : Option ℕ) × (route_link nodes links froms ports homes m ≡ Ok link) × (route_port nodes links froms ports homes m ≡ Ok port) × (way_of link port ≡ Ok route.way))
+route_read nodes links froms ports homes m route is =
+    let node = read_first (route_node nodes links froms ports homes m) _ route is in
+    let prefix = read_first (route_prefix m) _ route node.2 in
+    let link = read_first (route_link nodes links froms ports homes m) _ route prefix.2 in
+    let port = read_first (route_port nodes links froms ports homes m) _ route link.2 in
+    let way = read_first (way_of link.0 port.0) _ route port.2 in
+    let same : record { node = record { 0 = node.0 }; prefix = prefix.0; way = way.0 } ≡ route = cc in
+    let P : Route → Type 0 = λ r. (route_node nodes links froms ports homes m ≡ Ok r.node.0) × (route_prefix m ≡ Ok r.prefix)
+    × ((l p : Option ℕ) × (route_link nodes links froms ports homes m ≡ Ok l) × (route_port nodes links froms ports homes m ≡ Ok p) × (way_of l p ≡ Ok r.way)) in
+    subst P same (node.1, prefix.1, (link.0, port.0, link.1, port.1, way.1))
+
 -- a route is of a node of these names, and its way is from there
 pub route_leads : (nodes links : List (List ℕ)) (froms : List (Result ℕ Why)) (ports : List (List ℕ)) (homes : List (Result ℕ Why)) (link_items : List Link) (port_items : List Port)
     → froms ≡ map from_of link_items → homes ≡ map node_of_port port_items → length links ≡ length link_items → length ports ≡ length port_items
     → (m : Members) (route : Route) → route_of nodes links froms ports homes m ≡ Ok route → IsRouteOf (length nodes) link_items port_items route
 route_leads nodes links froms ports homes link_items port_items from_items home_items link_count port_count m route is =
-    let parts : (route_node nodes links froms ports homes m ≡ Ok route.node.0) × ((link port : Option ℕ) × (route_link nodes links froms ports homes m ≡ Ok link) × (route_port nodes links froms ports homes m ≡ Ok port) × (way_of link port ≡ Ok route.way)) =
-    route_parts (route_node nodes links froms ports homes m) (route_prefix m) (route_link nodes links froms ports homes m) (route_port nodes links froms ports homes m) route is in
+    let parts = route_read nodes links froms ports homes m route is in
     record {
       known = known_below nodes (needed name (get_member (codes "node") m)) route.node.0 parts.0;
       leads = way_leads nodes links froms ports homes link_items port_items from_items home_items link_count port_count m route.node.0 parts.0
-          route.way parts.1.0 parts.1.1 parts.1.2 parts.1.3 parts.1.4;
+          route.way parts.2.0 parts.2.1 parts.2.2 parts.2.3 parts.2.4;
     }
-
-way_prefix : (node : ℕ) (p : Prefix) (w : Result Way Why) (route : Route) → w ▷ (λ way. Ok (record { node = record { 0 = node }; prefix = p; way = way })) ≡ Ok route
-    → p ≡ route.prefix
-way_prefix node p (Err why) route is = cc
-way_prefix node p (Ok way) route is = let same : record { node = record { 0 = node }; prefix = p; way = way } ≡ route = cc in ap (λ (r : Route). r.prefix) same
-
-prefix_part : (a : Result ℕ Why) (b : Result Prefix Why) (c d : Result (Option ℕ) Why) (route : Route)
-    → a ▷ (λ node. b ▷ (λ p. c ▷ (λ link. d ▷ (λ port. way_of link port ▷ (λ way. Ok (record { node = record { 0 = node }; prefix = p; way = way })))))) ≡ Ok route
-    → b ≡ Ok route.prefix
-prefix_part (Err why) b c d route is = cc
-prefix_part (Ok node) (Err why) c d route is = cc
-prefix_part (Ok node) (Ok p) (Err why) d route is = cc
-prefix_part (Ok node) (Ok p) (Ok link) (Err why) route is = cc
-prefix_part (Ok node) (Ok p) (Ok link) (Ok port) route is = ap Ok (way_prefix node p (way_of link port) route is)
 
 -- a route's prefix is one
 pub route_prefixed : (nodes links : List (List ℕ)) (froms : List (Result ℕ Why)) (ports : List (List ℕ)) (homes : List (Result ℕ Why))
     (m : Members) (route : Route) → route_of nodes links froms ports homes m ≡ Ok route → IsPrefix route.prefix
 route_prefixed nodes links froms ports homes m route is = key_is_prefix (get_member (codes "prefix") m) route.prefix
-    (prefix_part (route_node nodes links froms ports homes m) (route_prefix m) (route_link nodes links froms ports homes m) (route_port nodes links froms ports homes m) route is)
+    (route_read nodes links froms ports homes m route is).1

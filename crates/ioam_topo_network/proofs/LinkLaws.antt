@@ -1,9 +1,8 @@
 -- Laws of the links that are collected.
-use Rattle.std.proofs.Common.{◌≡◌, ◌≤◌, ℕ, ◌+◌, List, [], ◌∷◌, ◌++◌, length, map, Ok, Err, Result, refl, ap, sym, ◌∙◌, arith}
-use Rattle.toml.specs.Data.{Members}
+use Rattle.std.proofs.Common.{◌≡◌, ◌≤◌, ℕ, ◌+◌, codes, subst, List, [], ◌∷◌, ◌++◌, length, map, Ok, Err, Result, refl, ap, sym, ◌∙◌, arith}
+use Rattle.toml.specs.Data.{Data, Members, get_member}
 use Rattle.std.proofs.Common.{Bool, true, false, cond, nat_lt, Option, Some, None}
 use Rattle.std.proofs.lemmas.Bool.Decides.{nat_tests}
-use Rattle.toml.specs.Data.{Data}
 use Rattle.ioam_topo_values.specs.declared.why.Why.{Why}
 use Rattle.ioam_topo_values.specs.declared.why.Why.TheVariants.{TooMany}
 use Rattle.ioam_topo_values.specs.Reads.{◌▷◌, maybe, needed}
@@ -11,16 +10,45 @@ use Rattle.ioam_topo_values.specs.Texts.{file_name}
 use Rattle.ioam_topo_tables.specs.declared.links.Links.{Links}
 use Rattle.ioam_topo.specs.declared.parts.Link.{Link}
 use Rattle.ioam_topo_entries.specs.Goods.{goods, kept}
-use Rattle.ioam_topo_network.specs.LinkTable.{link_keys, link_faults, link_of, link_name, link_end, tap_there, tap_count, few_taps}
+use Rattle.ioam_topo_network.specs.LinkTable.{link_keys, link_faults, link_of, link_name, link_from, link_to, link_ends, link_with, link_end, tap_there, tap_count, few_taps}
 use Rattle.ioam_topo_network.specs.LinkRead.{HoldsLinks, IsNewLink, from_of}
 use Rattle.ioam_topo.specs.Keyed.{name_of_link, count_of, taps_of}
+use Rattle.ioam_topo_entries.specs.Keys.{link_rows}
+use Rattle.ioam_topo_entries.specs.Rows.{row_numbers}
 use Rattle.ioam_topo_entries.proofs.GoodsLaws.{goods_push}
+use Rattle.ioam_topo_entries.proofs.NumberLaws.{read_first, read_on}
 use Rattle.ioam_topo.proofs.KeyLaws.{map_append}
 use Rattle.ioam_topo_entries.proofs.KeyLaws.{kept_by}
 
 pub held_faults : (nodes : List (List ℕ)) (most : ℕ) (earlier : List Members) (links : Links) (place : ℕ) (m : Members) → HoldsLinks nodes most earlier links
     → place ≡ length earlier + 1 → link_keys nodes most place links.names links.taps m ≡ link_faults nodes most earlier m
 held_faults nodes most earlier links place m holds there = rw (holds.names, holds.taps, there)
+
+-- a link of parts that were read
+pub new_link : (nodes : List (List ℕ)) (m : Members) (name : List ℕ) (from to : ℕ) (numbers : List ℕ) (tap : Option (List ℕ))
+    → link_name m ≡ Ok name → link_from nodes m ≡ Ok from → link_to nodes m ≡ Ok to → row_numbers link_rows m ≡ Ok numbers
+    → maybe file_name (get_member (codes "tap") m) ≡ Ok tap → link_of nodes m ≡ Ok (link_with name (from, to) numbers tap)
+new_link nodes m name from to numbers tap named starts ends numbered tapped =
+    let joins : link_ends nodes m ≡ Ok (from, to) = read_on (link_from nodes m) _ from starts ∙ read_on (link_to nodes m) _ to ends in
+    read_on (link_name m) _ name named ∙ read_on (link_ends nodes m) _ (from, to) joins ∙ read_on (row_numbers link_rows m) _ numbers numbered
+    ∙ read_on (maybe file_name (get_member (codes "tap") m)) _ tap tapped
+
+-- the parts of a link that was read
+pub link_read : (nodes : List (List ℕ)) (m : Members) (link : Link) → link_of nodes m ≡ Ok link
+    → (link_from nodes m ≡ Ok link.from.0) × (link_to nodes m ≡ Ok link.to.0)
+    × ((ns : List ℕ) × (row_numbers link_rows m ≡ Ok ns) × (link_with link.name (link.from.0, link.to.0) ns link.tap ≡ link))
+link_read nodes m link is =
+    let named = read_first (link_name m) _ link is in
+    let joined = read_first (link_ends nodes m) _ link named.2 in
+    let starts = read_first (link_from nodes m) _ joined.0 joined.1 in
+    let ends = read_first (link_to nodes m) _ joined.0 starts.2 in
+    let numbered = read_first (row_numbers link_rows m) _ link joined.2 in
+    let tapped = read_first (maybe file_name (get_member (codes "tap") m)) _ link numbered.2 in
+    let pair : (starts.0, ends.0) ≡ joined.0 = cc in
+    let same : link_with named.0 joined.0 numbered.0 tapped.0 ≡ link = cc in
+    let P : Link → Type 0 = λ l. (link_from nodes m ≡ Ok l.from.0) × (link_to nodes m ≡ Ok l.to.0)
+    × ((ns : List ℕ) × (row_numbers link_rows m ≡ Ok ns) × (link_with l.name (l.from.0, l.to.0) ns l.tap ≡ l)) in
+    subst P same (starts.1 ∙ ap (λ (e : ℕ × ℕ). Ok e.0) pair, ends.1 ∙ ap (λ (e : ℕ × ℕ). Ok e.1) pair, (numbered.0, numbered.1, refl))
 
 taps_more : (ms : List Members) (m : Members) (n : ℕ) → ((taps : List (List ℕ)) → length (kept (tap_there m) taps) ≡ length taps + n)
     → tap_count (ms ++ m ∷ []) ≡ tap_count ms + n

@@ -1,9 +1,8 @@
 -- Laws of the nodes that are collected.
-use Rattle.std.proofs.Common.{◌≡◌, ℕ, ◌+◌, List, [], ◌∷◌, ◌++◌, length, map, ap, ◌∙◌, Result, Ok, Err}
+use Rattle.std.proofs.Common.{◌≡◌, ℕ, ◌+◌, List, [], ◌∷◌, ◌++◌, length, map, ap, subst, ◌∙◌, Result, Ok}
 use Rattle.toml.specs.Data.{Members}
 use Rattle.ioam_data.specs.declared.namespace.Namespace.{Namespace}
 use Rattle.ioam_topo_values.specs.declared.why.Why.{Why}
-use Rattle.ioam_topo_values.specs.Reads.{◌▷◌}
 use Rattle.ioam_topo_tables.specs.declared.nodes.Nodes.{Nodes}
 use Rattle.ioam_topo.specs.declared.parts.Node.{Node}
 use Rattle.ioam_topo_network.specs.NodeTable.{node_keys, node_faults, node_of, node_name, node_id, node_address, node_spaces, node_list}
@@ -11,6 +10,7 @@ use Rattle.ioam_topo_network.specs.NodeRead.{HoldsNodes, IsNewNode}
 use Rattle.ioam_topo_entries.specs.Goods.{list_of}
 use Rattle.ioam_topo.specs.Keyed.{name_of_node, id_of_node, address_of_node}
 use Rattle.ioam_topo_entries.proofs.GoodsLaws.{goods_push}
+use Rattle.ioam_topo_entries.proofs.NumberLaws.{read_first, read_on}
 use Rattle.ioam_topo.proofs.KeyLaws.{map_append}
 use Rattle.ioam_topo_entries.proofs.KeyLaws.{kept_by}
 
@@ -18,21 +18,23 @@ pub held_faults : (earlier : List Members) (nodes : Nodes) (place : ℕ) (m : Me
     → node_keys place nodes.names nodes.ids.keys nodes.addresses.keys m ≡ node_faults earlier m
 held_faults earlier nodes place m holds there = rw (holds.names, holds.ids, holds.addresses, there)
 
-list_read : (name : Result (List ℕ) Why) (id address : Result ℕ Why) (spaces : Result (List Namespace) Why) (node : Node)
-    → name ▷ (λ n. id ▷ (λ i. address ▷ (λ a. spaces ▷ (λ s. Ok (record { name = n; id = i; address = a; namespaces = s }))))) ≡ Ok node
-    → name ▷ (λ n. Ok spaces) ≡ Ok (Ok node.namespaces)
-list_read (Ok n) (Ok i) (Ok a) (Ok s) node is = let same : s ≡ node.namespaces = ap (λ (r : Result Node Why). spaces_in r s) is in ap (λ (l : List Namespace). Ok (Ok l)) same where
-  spaces_in : Result Node Why → List Namespace → List Namespace
-  spaces_in (Ok node) other = node.namespaces
-  spaces_in (Err why) other = other
-list_read (Ok n) (Ok i) (Ok a) (Err why) node is = cc
-list_read (Ok n) (Ok i) (Err why) spaces node is = cc
-list_read (Ok n) (Err why) address spaces node is = cc
-list_read (Err why) id address spaces node is = cc
+-- the keys of a node that was read
+pub node_read : (m : Members) (node : Node) → node_of m ≡ Ok node
+    → (node_name m ≡ Ok node.name) × (node_id m ≡ Ok node.id) × (node_address m ≡ Ok node.address) × (node_spaces m ≡ Ok node.namespaces)
+node_read m node is =
+    let named = read_first (node_name m) _ node is in
+    let numbered = read_first (node_id m) _ node named.2 in
+    let placed = read_first (node_address m) _ node numbered.2 in
+    let listed = read_first (node_spaces m) _ node placed.2 in
+    let same : record { name = named.0; id = numbered.0; address = placed.0; namespaces = listed.0 } ≡ node = cc in
+    let P : Node → Type 0 = λ n. (node_name m ≡ Ok n.name) × (node_id m ≡ Ok n.id) × (node_address m ≡ Ok n.address) × (node_spaces m ≡ Ok n.namespaces) in
+    subst P same (named.1, numbered.1, placed.1, listed.1)
 
 -- a node that was read has the namespaces that were read
 list_is : (m : Members) (node : Node) → node_of m ≡ Ok node → node_list m ≡ Ok (list_of node)
-list_is m node is = list_read (node_name m) (node_id m) (node_address m) (node_spaces m) node is
+list_is m node is =
+    let read = node_read m node is in
+    read_on (node_name m) _ node.name read.0 ∙ ap (λ (l : Result (List Namespace) Why). Ok l) read.3
 
 pub node_added : (earlier : List Members) (m : Members) (text : List ℕ) (node : Node) (old new : Nodes) → HoldsNodes earlier old → IsNewNode old m text node
     → new.items.items ≡ old.items.items ++ node ∷ [] → new.names ≡ old.names ++ node.name ∷ []

@@ -5,35 +5,18 @@ use Rattle.toml.specs.Data.{Members, get_member}
 use Rattle.ioam_topo_values.specs.declared.why.Why.{Why}
 use Rattle.ioam_topo_values.specs.declared.why.Why.TheVariants.{TooMany}
 use Rattle.ioam_topo_values.specs.Reads.{◌▷◌, needed, maybe}
-use Rattle.ioam_topo_values.specs.Numbers.{number}
 use Rattle.ioam_topo_values.specs.Texts.{name, file_name}
 use Rattle.ioam_topo_entries.specs.declared.words.Table.TheVariants.{LinkTable}
-use Rattle.ioam_topo_entries.specs.declared.words.Field.TheVariants.{OtherKey, NameKey, FromKey, ToKey, OutIdKey, InIdKey, DelayKey, MtuKey, TapKey}
 use Rattle.ioam_topo_entries.specs.declared.fault.DomainFault.{DomainFault}
 use Rattle.ioam_topo.specs.declared.parts.Link.{Link}
-use Rattle.ioam_topo_entries.specs.Faults.{at}
+use Rattle.ioam_topo_entries.specs.Faults.{at, other_key}
 use Rattle.ioam_topo_entries.specs.Goods.{goods, fresh, known, differs}
-use Rattle.ioam_topo_entries.specs.Keys.{own_keys}
+use Rattle.ioam_topo_entries.specs.Keys.{own_keys, link_rows}
+use Rattle.ioam_topo_entries.specs.Rows.{row_numbers, row_faults, nth}
 
 -- the name of a link, which is needed
 abbrev pub link_name : Members → Result (List ℕ) Why
 link_name m = needed name (get_member (codes "name") m)
-
--- the id of the link's interface at the node it is from: 0 to 2^32 - 1
-abbrev pub link_out_id : Members → Result ℕ Why
-link_out_id m = needed (number 0 4294967295) (get_member (codes "out_id") m)
-
--- the id of its interface at the node it leads to: 0 to 2^32 - 1
-abbrev pub link_in_id : Members → Result ℕ Why
-link_in_id m = needed (number 0 4294967295) (get_member (codes "in_id") m)
-
--- its delay in nanoseconds: 0 to 1,000,000,000
-abbrev pub link_delay : Members → Result ℕ Why
-link_delay m = needed (number 0 1000000000) (get_member (codes "delay") m)
-
--- the greatest packet that it takes, in octets: 1,280 to 65,575
-abbrev pub link_mtu : Members → Result ℕ Why
-link_mtu m = needed (number 1280 65575) (get_member (codes "mtu") m)
 
 -- a tap, where fewer links than the most have one before it
 abbrev pub few_taps : ℕ → ℕ → Option (List ℕ) → Result (Option (List ℕ)) Why
@@ -52,10 +35,18 @@ tap_there m = needed file_name (get_member (codes "tap") m)
 abbrev pub tap_count : List Members → ℕ
 tap_count entries = length (goods tap_there entries)
 
--- the faults of a link's ids, its delay and its greatest packet
-abbrev pub number_keys : ℕ → Members → List DomainFault
-number_keys place m = at LinkTable place OutIdKey (link_out_id m) ++ (at LinkTable place InIdKey (link_in_id m)
-    ++ (at LinkTable place DelayKey (link_delay m) ++ at LinkTable place MtuKey (link_mtu m)))
+-- the link of these parts, whose numbers are in the order of their rows
+abbrev pub link_with : List ℕ → ℕ × ℕ → List ℕ → Option (List ℕ) → Link
+link_with name ends numbers tap = record {
+  name = name;
+  from = record { 0 = ends.0 };
+  to = record { 0 = ends.1 };
+  out_id = nth numbers 0;
+  in_id = nth numbers 1;
+  delay = nth numbers 2;
+  mtu = nth numbers 3;
+  tap = tap;
+}
 
 -- `nodes` are the names of the nodes
 module _ (nodes : List (List ℕ)) where
@@ -71,24 +62,26 @@ module _ (nodes : List (List ℕ)) where
   abbrev pub link_end : Members → Result (Result ℕ Why) Why
   link_end m = link_name m ▷ (λ name. Ok (link_from m))
 
+  -- the nodes at its two ends, by their places
+  abbrev pub link_ends : Members → Result (ℕ × ℕ) Why
+  link_ends m = link_from m ▷ (λ from. link_to m ▷ (λ to. Ok (from, to)))
+
   -- a link, whether or not its tap is one too many
   abbrev pub link_of : Members → Result Link Why
-  link_of m = link_name m ▷ (λ name. link_from m ▷ (λ from. link_to m ▷ (λ to.
-      link_out_id m ▷ (λ out_id. link_in_id m ▷ (λ in_id. link_delay m ▷ (λ delay. link_mtu m ▷ (λ mtu.
-      maybe file_name (get_member (codes "tap") m) ▷ (λ tap.
-      Ok (record { name = name; from = record { 0 = from }; to = record { 0 = to }; out_id = out_id; in_id = in_id; delay = delay; mtu = mtu; tap = tap })))))))))
+  link_of m = link_name m ▷ (λ name. link_ends m ▷ (λ ends. row_numbers link_rows m ▷ (λ numbers.
+      maybe file_name (get_member (codes "tap") m) ▷ (λ tap. Ok (link_with name ends numbers tap)))))
 
   -- the faults of a link's two ends
   abbrev pub end_keys : ℕ → Members → List DomainFault
-  end_keys place m = at LinkTable place FromKey (link_from m) ++ at LinkTable place ToKey (link_to m)
+  end_keys place m = at LinkTable place (codes "from") (link_from m) ++ at LinkTable place (codes "to") (link_to m)
 
   -- the faults of the entry at a place, with these names and so many taps, of no more than the most, before it
   abbrev pub link_keys : ℕ → ℕ → List (List ℕ) → ℕ → Members → List DomainFault
   link_keys most place names taps m =
-      at LinkTable place OtherKey (own_keys LinkTable m)
-      ++ (at LinkTable place NameKey (link_name m ▷ fresh bytes_eq names)
-      ++ (end_keys place m ++ (number_keys place m
-      ++ at LinkTable place TapKey (link_tap most taps m))))
+      at LinkTable place other_key (own_keys LinkTable m)
+      ++ (at LinkTable place (codes "name") (link_name m ▷ fresh bytes_eq names)
+      ++ (end_keys place m ++ (row_faults LinkTable place link_rows m
+      ++ at LinkTable place (codes "tap") (link_tap most taps m))))
 
   -- the faults of an entry behind others
   abbrev pub link_faults : ℕ → List Members → Members → List DomainFault

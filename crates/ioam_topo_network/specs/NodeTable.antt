@@ -10,10 +10,9 @@ use Rattle.ioam_topo_values.specs.Texts.{name}
 use Rattle.ioam_topo_values.specs.Addresses.{address}
 use Rattle.ioam_topo_values.specs.Entries.{namespaces}
 use Rattle.ioam_topo_entries.specs.declared.words.Table.TheVariants.{NodeTable}
-use Rattle.ioam_topo_entries.specs.declared.words.Field.TheVariants.{OtherKey, NameKey, IdKey, AddressKey, NamespacesKey}
 use Rattle.ioam_topo_entries.specs.declared.fault.DomainFault.{DomainFault}
 use Rattle.ioam_topo.specs.declared.parts.Node.{Node}
-use Rattle.ioam_topo_entries.specs.Faults.{at}
+use Rattle.ioam_topo_entries.specs.Faults.{at, other_key}
 use Rattle.ioam_topo_entries.specs.Goods.{goods, fresh}
 use Rattle.ioam_topo_entries.specs.Keys.{own_keys}
 
@@ -45,11 +44,11 @@ node_of m = node_name m ▷ (λ name. node_id m ▷ (λ id. node_address m ▷ (
 -- the faults of the entry at a place, with these names, ids and addresses before it
 abbrev pub node_keys : ℕ → List (List ℕ) → List ℕ → List ℕ → Members → List DomainFault
 node_keys place names ids addresses m =
-    at NodeTable place OtherKey (own_keys NodeTable m)
-    ++ (at NodeTable place NameKey (node_name m ▷ fresh bytes_eq names)
-    ++ (at NodeTable place IdKey (node_id m ▷ fresh nat_eq ids)
-    ++ (at NodeTable place AddressKey (node_address m ▷ fresh nat_eq addresses)
-    ++ at NodeTable place NamespacesKey (node_spaces m))))
+    at NodeTable place other_key (own_keys NodeTable m)
+    ++ (at NodeTable place (codes "name") (node_name m ▷ fresh bytes_eq names)
+    ++ (at NodeTable place (codes "id") (node_id m ▷ fresh nat_eq ids)
+    ++ (at NodeTable place (codes "address") (node_address m ▷ fresh nat_eq addresses)
+    ++ at NodeTable place (codes "namespaces") (node_spaces m))))
 
 -- the faults of an entry behind others
 abbrev pub node_faults : List Members → Members → List DomainFault

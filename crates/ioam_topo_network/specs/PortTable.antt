@@ -7,10 +7,9 @@ use Rattle.ioam_topo_values.specs.Reads.{◌▷◌, needed, maybe}
 use Rattle.ioam_topo_values.specs.Numbers.{number}
 use Rattle.ioam_topo_values.specs.Texts.{name, file_name}
 use Rattle.ioam_topo_entries.specs.declared.words.Table.TheVariants.{PortTable}
-use Rattle.ioam_topo_entries.specs.declared.words.Field.TheVariants.{OtherKey, NameKey, NodeKey, IdKey, InKey, OutKey}
 use Rattle.ioam_topo_entries.specs.declared.fault.DomainFault.{DomainFault}
 use Rattle.ioam_topo.specs.declared.parts.Port.{Port}
-use Rattle.ioam_topo_entries.specs.Faults.{at}
+use Rattle.ioam_topo_entries.specs.Faults.{at, other_key}
 use Rattle.ioam_topo_entries.specs.Goods.{goods, fresh, known}
 use Rattle.ioam_topo_entries.specs.Keys.{own_keys}
 
@@ -48,12 +47,12 @@ module _ (nodes : List (List ℕ)) where
   -- the faults of the entry at a place, with these names before it
   abbrev pub port_keys : ℕ → List (List ℕ) → Members → List DomainFault
   port_keys place names m =
-      at PortTable place OtherKey (own_keys PortTable m)
-      ++ (at PortTable place NameKey (port_name m ▷ fresh bytes_eq names)
-      ++ (at PortTable place NodeKey (port_node m)
-      ++ (at PortTable place IdKey (port_id m)
-      ++ (at PortTable place InKey (port_input m)
-      ++ at PortTable place OutKey (port_output m)))))
+      at PortTable place other_key (own_keys PortTable m)
+      ++ (at PortTable place (codes "name") (port_name m ▷ fresh bytes_eq names)
+      ++ (at PortTable place (codes "node") (port_node m)
+      ++ (at PortTable place (codes "id") (port_id m)
+      ++ (at PortTable place (codes "in") (port_input m)
+      ++ at PortTable place (codes "out") (port_output m)))))
 
   -- the faults of an entry behind others
   abbrev pub port_faults : List Members → Members → List DomainFault

@@ -9,12 +9,11 @@ use Rattle.ioam_topo_values.specs.Reads.{◌▷◌, needed}
 use Rattle.ioam_topo_values.specs.Texts.{name}
 use Rattle.ioam_topo_values.specs.Prefixes.{prefix}
 use Rattle.ioam_topo_entries.specs.declared.words.Table.TheVariants.{RouteTable}
-use Rattle.ioam_topo_entries.specs.declared.words.Field.TheVariants.{OtherKey, NodeKey, PrefixKey, LinkKey, PortKey}
 use Rattle.ioam_topo_entries.specs.declared.fault.DomainFault.{DomainFault}
 use Rattle.ioam_topo.specs.declared.ids.Way.{Way}
 use Rattle.ioam_topo.specs.declared.ids.Way.TheVariants.{Link, Port}
 use Rattle.ioam_topo.specs.declared.parts.Route.{Route}
-use Rattle.ioam_topo_entries.specs.Faults.{at}
+use Rattle.ioam_topo_entries.specs.Faults.{at, other_key}
 use Rattle.ioam_topo_entries.specs.Goods.{goods, known, agrees, read_at}
 use Rattle.ioam_topo_entries.specs.Keys.{own_keys}
 use Rattle.ioam_topo.specs.Keyed.{is_route}
@@ -84,11 +83,11 @@ module _ (nodes links : List (List ℕ)) (froms : List (Result ℕ Why)) (ports 
   -- the faults of the entry at a place, behind these routes
   abbrev pub route_keys : ℕ → List (ℕ × Prefix) → Members → List DomainFault
   route_keys place seen m =
-      at RouteTable place OtherKey (own_keys RouteTable m)
-      ++ (at RouteTable place NodeKey (route_node m)
-      ++ (at RouteTable place PrefixKey (route_prefix m ▷ fresh_for (route_node m) seen)
-      ++ (at RouteTable place LinkKey (route_link m)
-      ++ at RouteTable place PortKey (route_port m))))
+      at RouteTable place other_key (own_keys RouteTable m)
+      ++ (at RouteTable place (codes "node") (route_node m)
+      ++ (at RouteTable place (codes "prefix") (route_prefix m ▷ fresh_for (route_node m) seen)
+      ++ (at RouteTable place (codes "link") (route_link m)
+      ++ at RouteTable place (codes "port") (route_port m))))
 
   -- the faults of an entry behind others
   abbrev pub route_faults : List Members → Members → List DomainFault

@@ -1,12 +1,14 @@
 //! The table `link`.
-ghost use Rattle.std.specs.Prelude.{◌≡◌, Ok, option_map};
+ghost use Rattle.std.specs.Prelude.{◌≡◌, ◌∷◌, [], Ok, option_map};
 ghost use Rattle.toml.specs.View.{table_view};
 ghost use Rattle.std.specs.Prelude.{codes, IfOk};
 ghost use Rattle.toml.specs.Data.{get_member};
 ghost use Rattle.ioam_topo_values.specs.Reads.{Reads, ◌▷◌, needed};
 ghost use Rattle.ioam_topo_values.specs.Texts.{name};
 ghost use Rattle.ioam_topo_entries.specs.Goods.{known, differs};
-ghost use Rattle.ioam_topo_network.specs.LinkTable.{link_from, link_to, link_tap, end_keys, number_keys, link_out_id, link_in_id, link_delay, link_mtu, link_keys};
+ghost use Rattle.ioam_topo_network.specs.LinkTable.{link_from, link_to, link_tap, end_keys, link_with, link_keys};
+ghost use Rattle.ioam_topo_entries.specs.Keys.{link_rows};
+ghost use Rattle.ioam_topo_entries.specs.Rows.{row_numbers, row_faults};
 ghost use Rattle.ioam_topo_entries.specs.Faults.{Gives};
 ghost use Rattle.ioam_topo_network.specs.LinkRead.{IsNewLink};
 
@@ -14,9 +16,7 @@ use crate::before::AmongNodes;
 use ioam_base::memory::NoMemory;
 use ioam_base::name::Name;
 use ioam_topo::{Link, NodeId};
-use ioam_topo_entries::{
-    Collects, DomainRefused, Field, Spot, Table, known, known_other, new_name, number32, own_keys,
-};
+use ioam_topo_entries::{Collects, DomainRefused, Spot, Table};
 use ioam_topo_tables::{Links, Nodes};
 use ioam_topo_values::{Why, maybe_file_name};
 use std::alloc::Global;
@@ -47,20 +47,20 @@ fn link_ends(spot: Spot, nodes: &Nodes, entry: &toml::Table) -> Result<Ends, Dom
     ensures { Gives result (end_keys nodes.now.names spot.place (table_view entry.now))
         (λ ends. (link_from nodes.now.names (table_view entry.now) ≡ Ok ends.from) × (link_to nodes.now.names (table_view entry.now) ≡ Ok ends.to)) }
 {
-    let from = spot.key(Field::FromKey, known(&nodes.names, entry, "from"))?;
-    let to = spot.key(Field::ToKey, known_other(&nodes.names, entry, "to", from))?;
+    let from = spot.known(&nodes.names, entry, "from")?;
+    let to = spot.known_other(&nodes.names, entry, "to", from)?;
     Ok(Ends { from, to })
 }
 
 fn link_numbers(spot: Spot, entry: &toml::Table) -> Result<Numbers, DomainRefused>
     requires { spot.table ≡ Table.LinkTable }
-    ensures { Gives result (number_keys spot.place (table_view entry.now)) (λ n. (link_out_id (table_view entry.now) ≡ Ok n.out_id)
-        × (link_in_id (table_view entry.now) ≡ Ok n.in_id) × (link_delay (table_view entry.now) ≡ Ok n.delay) × (link_mtu (table_view entry.now) ≡ Ok n.mtu)) }
+    ensures { Gives result (row_faults Table.LinkTable spot.place link_rows (table_view entry.now))
+        (λ n. row_numbers link_rows (table_view entry.now) ≡ Ok (n.out_id ∷ n.in_id ∷ n.delay ∷ n.mtu ∷ [])) }
 {
-    let out_id = spot.key(Field::OutIdKey, number32(entry, "out_id", 0, 4_294_967_295))?;
-    let in_id = spot.key(Field::InIdKey, number32(entry, "in_id", 0, 4_294_967_295))?;
-    let delay = spot.key(Field::DelayKey, number32(entry, "delay", 0, 1_000_000_000))?;
-    let mtu = spot.key(Field::MtuKey, number32(entry, "mtu", LEAST_MTU, MOST_MTU))?;
+    let out_id = spot.number32(entry, "out_id", 0, 4_294_967_295)?;
+    let in_id = spot.number32(entry, "in_id", 0, 4_294_967_295)?;
+    let delay = spot.number32(entry, "delay", 0, 1_000_000_000)?;
+    let mtu = spot.number32(entry, "mtu", LEAST_MTU, MOST_MTU)?;
     Ok(Numbers {
         out_id,
         in_id,
@@ -97,16 +97,8 @@ fn link_of(
     numbers: Numbers,
     tap: Option<&str>,
 ) -> Result<Link, NoMemory>
-    ensures { IfOk result (λ link. link ≡ record {
-      name = name.now;
-      from = record { 0 = ends.from };
-      to = record { 0 = ends.to };
-      out_id = numbers.out_id;
-      in_id = numbers.in_id;
-      delay = numbers.delay;
-      mtu = numbers.mtu;
-      tap = option_map (λ t. t.now) tap.entry;
-    }) }
+    ensures { IfOk result (λ link. link ≡ link_with name.now (ends.from, ends.to)
+        (numbers.out_id ∷ numbers.in_id ∷ numbers.delay ∷ numbers.mtu ∷ []) (option_map (λ t. t.now) tap.entry)) }
 {
     Ok(Link {
         name: Name::new(alloc, name)?,
@@ -136,11 +128,11 @@ fn read_link<'a>(
         table: Table::LinkTable,
         place,
     };
-    spot.key(Field::OtherKey, own_keys(Table::LinkTable, entry))?;
-    let text = spot.key(Field::NameKey, new_name(&links.names, entry, "name"))?;
+    spot.own_keys(entry)?;
+    let text = spot.new_name(&links.names, entry, "name")?;
     let ends = link_ends(spot, nodes, entry)?;
     let numbers = link_numbers(spot, entry)?;
-    let tap = spot.key(Field::TapKey, tap(most_taps, links.taps, entry))?;
+    let tap = spot.key("tap", tap(most_taps, links.taps, entry))?;
     match link_of(alloc, text, ends, numbers, tap) {
         Ok(link) => Ok((text, link)),
         Err(_) => Err(DomainRefused::NoMemory),

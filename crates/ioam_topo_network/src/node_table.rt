@@ -10,7 +10,7 @@ ghost use Rattle.ioam_topo_network.specs.NodeRead.{IsNewNode};
 use crate::before::Nothing;
 use ioam_base::name::Name;
 use ioam_topo::Node;
-use ioam_topo_entries::{Collects, DomainRefused, Field, Spot, Table, new_name, own_keys};
+use ioam_topo_entries::{Collects, DomainRefused, Spot, Table};
 use ioam_topo_tables::Nodes;
 use ioam_topo_values::{Why, address, namespaces, number};
 use std::alloc::Global;
@@ -49,14 +49,11 @@ fn read_node<'a>(
         table: Table::NodeTable,
         place,
     };
-    spot.key(Field::OtherKey, own_keys(Table::NodeTable, entry))?;
-    let text = spot.key(Field::NameKey, new_name(&nodes.names, entry, "name"))?;
-    let id = spot.key(Field::IdKey, new_id(nodes, number(entry, "id", 0, MOST_ID)))?;
-    let address = spot.key(
-        Field::AddressKey,
-        new_address(nodes, address(entry, "address")),
-    )?;
-    let namespaces = spot.key_or(Field::NamespacesKey, namespaces(alloc, entry, "namespaces"))?;
+    spot.own_keys(entry)?;
+    let text = spot.new_name(&nodes.names, entry, "name")?;
+    let id = spot.key("id", new_id(nodes, number(entry, "id", 0, MOST_ID)))?;
+    let address = spot.key("address", new_address(nodes, address(entry, "address")))?;
+    let namespaces = spot.key_or("namespaces", namespaces(alloc, entry, "namespaces"))?;
     match Name::new(alloc, text) {
         Ok(name) => Ok((
             text,

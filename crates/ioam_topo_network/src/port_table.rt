@@ -10,9 +10,7 @@ use crate::link_table::maybe_copied;
 use ioam_base::memory::NoMemory;
 use ioam_base::name::Name;
 use ioam_topo::{NodeId, Port};
-use ioam_topo_entries::{
-    Collects, DomainRefused, Field, Spot, Table, known, new_name, number32, own_keys,
-};
+use ioam_topo_entries::{Collects, DomainRefused, Spot, Table};
 use ioam_topo_tables::{Nodes, Ports};
 use ioam_topo_values::{file_name, maybe_file_name};
 use std::alloc::Global;
@@ -58,12 +56,12 @@ fn read_port<'a>(
         table: Table::PortTable,
         place,
     };
-    spot.key(Field::OtherKey, own_keys(Table::PortTable, entry))?;
-    let text = spot.key(Field::NameKey, new_name(&ports.names, entry, "name"))?;
-    let node = spot.key(Field::NodeKey, known(&nodes.names, entry, "node"))?;
-    let id = spot.key(Field::IdKey, number32(entry, "id", 0, 4_294_967_295))?;
-    let input = spot.key(Field::InKey, maybe_file_name(entry, "in"))?;
-    let output = spot.key(Field::OutKey, file_name(entry, "out"))?;
+    spot.own_keys(entry)?;
+    let text = spot.new_name(&ports.names, entry, "name")?;
+    let node = spot.known(&nodes.names, entry, "node")?;
+    let id = spot.number32(entry, "id", 0, 4_294_967_295)?;
+    let input = spot.key("in", maybe_file_name(entry, "in"))?;
+    let output = spot.key("out", file_name(entry, "out"))?;
     match port_of(alloc, text, NodeId(node), id, input, output) {
         Ok(port) => Ok((text, port)),
         Err(_) => Err(DomainRefused::NoMemory),

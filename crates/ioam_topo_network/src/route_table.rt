@@ -14,7 +14,7 @@ ghost use Rattle.ioam_topo_network.specs.RouteRead.{keys_behind, IsNewRoute};
 
 use crate::before::AmongParts;
 use ioam_topo::{LinkId, NodeId, PortId, Prefix, Route, Way};
-use ioam_topo_entries::{Collects, DomainRefused, Field, Spot, Table, known, known_name, own_keys};
+use ioam_topo_entries::{Collects, DomainRefused, Spot, Table, known, known_name};
 use ioam_topo_tables::{Parts, Routes};
 use ioam_topo_values::{Why, has, maybe_name, prefix};
 use std::alloc::Global;
@@ -101,13 +101,13 @@ fn read_route(
         table: Table::RouteTable,
         place,
     };
-    spot.key(Field::OtherKey, own_keys(Table::RouteTable, entry))?;
-    let node = spot.key(Field::NodeKey, route_node(parts, entry))?;
-    let prefix = spot.key(Field::PrefixKey, new_prefix(routes, node, entry))?;
-    let link = spot.key(Field::LinkKey, route_link(parts, node, entry))?;
-    let port = spot.key(Field::PortKey, route_port(parts, node, entry))?;
+    spot.own_keys(entry)?;
+    let node = spot.key("node", route_node(parts, entry))?;
+    let prefix = spot.key("prefix", new_prefix(routes, node, entry))?;
+    let link = spot.key("link", route_link(parts, node, entry))?;
+    let port = spot.key("port", route_port(parts, node, entry))?;
     // No fault is left here: of the two keys exactly one was read.
-    let way = spot.key(Field::LinkKey, way_of(link, port))?;
+    let way = spot.key("link", way_of(link, port))?;
     Ok(Route {
         node: NodeId(node),
         prefix,

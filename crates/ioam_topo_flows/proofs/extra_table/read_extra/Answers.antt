@@ -5,8 +5,7 @@ use Rattle.toml.specs.View.{table_view}
 use Rattle.ioam_topo_values.specs.Reads.{◌▷◌, needed}
 use Rattle.ioam_topo_values.specs.Numbers.{number}
 use Rattle.ioam_topo_entries.specs.declared.words.Table.TheVariants.{ExtraTable}
-use Rattle.ioam_topo_entries.specs.declared.words.Field.TheVariants.{OtherKey}
-use Rattle.ioam_topo_entries.specs.Faults.{at}
+use Rattle.ioam_topo_entries.specs.Faults.{at, other_key}
 use Rattle.ioam_topo_entries.specs.Goods.{list_of}
 use Rattle.ioam_topo_entries.specs.Keys.{own_keys}
 use Rattle.ioam_topo_entries.proofs.FaultLaws.{gives_same}
@@ -20,7 +19,7 @@ use Rattle.ioam_topo_flows.proofs.extra_table.read_extra.Goals as goal
 
 pub returns-in_err-kind : goal.returns-in_err-kind
 returns-in_err-kind c =
-    let own : at ExtraTable c.args.place OtherKey (own_keys ExtraTable (table_view c.args.entry.now)) ≡ [] = search rules in
+    let own : at ExtraTable c.args.place other_key (own_keys ExtraTable (table_view c.args.entry.now)) ≡ [] = search rules in
     let named : flow_behind c.args.nodes.now c.args.flows.now (table_view c.args.entry.now) ▷ few_of c.args.extras.now.places.items ≡ Ok c.in_ok-flow.flow = search rules in
     let spaced : needed (number 0 65535) (get_member (codes "namespace") (table_view c.args.entry.now))
     ▷ known_at (map list_of c.args.nodes.now.items.items) (look_in (map look_of c.args.flows.now.items.items) (Ok c.in_ok-flow.flow)).entry
@@ -33,7 +32,7 @@ returns-in_err-kind c =
 
 pub returns : goal.returns
 returns c =
-    let own : at ExtraTable c.args.place OtherKey (own_keys ExtraTable (table_view c.args.entry.now)) ≡ [] = search rules in
+    let own : at ExtraTable c.args.place other_key (own_keys ExtraTable (table_view c.args.entry.now)) ≡ [] = search rules in
     let named : flow_behind c.args.nodes.now c.args.flows.now (table_view c.args.entry.now) ▷ few_of c.args.extras.now.places.items ≡ Ok c.in_ok-flow.flow = search rules in
     let spaced : needed (number 0 65535) (get_member (codes "namespace") (table_view c.args.entry.now))
     ▷ known_at (map list_of c.args.nodes.now.items.items) (look_in (map look_of c.args.flows.now.items.items) (Ok c.in_ok-flow.flow)).entry
