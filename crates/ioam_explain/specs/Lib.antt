@@ -1,4 +1,6 @@
+pub mod Fields
 pub mod Headers
-pub mod Payload
+pub mod Options
 pub mod Rows
+pub mod Trace
 pub mod Why

@@ -1,9 +1,9 @@
--- The list of rules: a row is a rule with the test that says whether it is broken, and the reason that it then gives.
-use Rattle.std.specs.Prelude.{ℕ, ◌+◌, Bool, ◌==◌, if◌then◌else◌, List, [], ◌∷◌, length, slice_index, Option, Some, None}
+-- The list of rules: a row is nothing if its rule holds, and else the reason.
+use Rattle.std.specs.Prelude.{ℕ, ◌+◌, Bool, ◌==◌, not, if◌then◌else◌, List, [], ◌∷◌, length, slice_index, Option, Some, None}
 use Rattle.ioam_explain.specs.declared.reason.Reason.{Reason}
 use Rattle.ioam_explain.specs.declared.reason.Rule.{Rule}
 use Rattle.ioam_explain.specs.declared.reason.Value.{Value}
-use Rattle.ioam_explain.specs.declared.reason.Value.TheVariants.{Octet}
+use Rattle.ioam_explain.specs.declared.reason.Value.TheVariants.{Number, Octet}
 
 -- how many octets two lists begin with in common
 unfoldable pub common : List ℕ → List ℕ → ℕ
@@ -11,24 +11,27 @@ common [] wanted = 0
 common (octet ∷ found) [] = 0
 common (octet ∷ found) (other ∷ wanted) = if octet == other then common found wanted + 1 else 0
 
--- the reason of a rule, if it is broken
+-- the reason of a rule, if it is broken: the trace, 0 for none, the octet, what is there and what is wanted
 unfoldable pub row : Bool → Rule → ℕ → ℕ → Value → Value → Option Reason
 row broken rule trace at found wanted =
     if broken then Some (record { rule = rule; trace = trace; at = at; found = found; wanted = wanted }) else None
 
--- the first of two reasons
-unfoldable pub either : Option Reason → Option Reason → Option Reason
-either None second = second
-either (Some reason) second = Some reason
+-- of a rule that wants a number
+unfoldable pub number : Rule → ℕ → ℕ → ℕ → ℕ → Option Reason
+number rule trace at found wanted = row (not (found == wanted)) rule trace at (Number found) (Number wanted)
 
--- the reason of a rule that wants octets to stay: the first octet that differs
+-- of a rule that wants an octet
+unfoldable pub octet : Rule → ℕ → ℕ → ℕ → ℕ → Option Reason
+octet rule trace at found wanted = row (not (found == wanted)) rule trace at (Octet found) (Octet wanted)
+
+-- of a rule that wants octets, from octet `at` on: the first that differs
 unfoldable pub differing : Rule → ℕ → ℕ → List ℕ → List ℕ → Option Reason
 differing rule trace at found wanted =
-    if common found wanted == length found then None
-    else Some (record {
-      rule = rule;
-      trace = trace;
-      at = at + common found wanted;
-      found = Octet (slice_index found (common found wanted));
-      wanted = Octet (slice_index wanted (common found wanted));
-    })
+    row (not (common found wanted == length found)) rule trace (at + common found wanted)
+    (Octet (slice_index found (common found wanted))) (Octet (slice_index wanted (common found wanted)))
+
+-- the first reason of the list
+unfoldable pub first_broken : List (Option Reason) → Option Reason
+first_broken [] = None
+first_broken (None ∷ rows) = first_broken rows
+first_broken (Some reason ∷ rows) = Some reason

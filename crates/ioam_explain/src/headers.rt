@@ -1,11 +1,13 @@
 //! The rules about the IPv6 header and the presence and length of the Hop-by-Hop Options header.
 ghost use Rattle.std.specs.Prelude.{◌≡◌, ◌+◌, ◌*◌, ◌/◌, ◌%◌, ◌<◌, ◌≤◌, ◌^◌, length, slice_index};
+ghost use Rattle.ioam_base.specs.Octets.{u16_at};
 ghost use Rattle.ioam_ip.specs.Hop.{has_hop};
-ghost use Rattle.ioam_ip.specs.Packet.{IsPacket};
-ghost use Rattle.ioam_explain.specs.Headers.{flow_label, header_rules, hop_octets, inserted, lower_limit, other_class, other_destination, other_label, other_limit, other_next, other_source, payload_length, removed, resized, traffic_class};
+ghost use Rattle.ioam_explain.specs.Headers.{flow_label, header_rules, hop_octets, limit_rule, lower_limit, presence_rules, traffic_class};
+ghost use Rattle.ioam_explain.specs.Rows.{first_broken};
+ghost use Rattle.ioam_explain.specs.declared.reason.Value.TheVariants.{Number};
 
 use crate::reason::{Reason, Rule, Value};
-use crate::rows::{differing, either, row};
+use crate::rows::{differing, first_broken, number, row};
 use ioam_base::octets::u16_at;
 use ioam_ip::next_header::HOP_BY_HOP;
 use ioam_ip::{HEADER_OCTETS, HOP_LIMIT, NEXT_HEADER};
@@ -13,8 +15,8 @@ use ioam_ip::{HEADER_OCTETS, HOP_LIMIT, NEXT_HEADER};
 // The octet of Payload Length.
 const PAYLOAD_LENGTH: usize = 4;
 
-/// Whether a Hop-by-Hop Options header follows the IPv6 header.
-pub(crate) fn has_hop(packet: &[u8]) -> bool
+// Whether a Hop-by-Hop Options header follows the IPv6 header.
+fn has_hop(packet: &[u8]) -> bool
     requires { 40 ≤ length packet.now }
     ensures { result ≡ has_hop packet.now }
 {
@@ -39,6 +41,14 @@ pub(crate) fn hop_octets(packet: &[u8]) -> usize
     } else {
         0
     }
+}
+
+// What Payload Length says.
+fn payload_length(packet: &[u8]) -> Value
+    requires { 40 ≤ length packet.now }
+    ensures { result ≡ Number (u16_at packet.now 4) }
+{
+    Value::Number(u64::from(u16_at(packet, PAYLOAD_LENGTH)))
 }
 
 // The traffic class.
@@ -69,149 +79,53 @@ fn lower_limit(limit: u8) -> Value
     }
 }
 
-// A header that was inserted.
-#[tactic(auto, unfolding(crate::specs::Headers::inserted))]
-fn inserted(before: &[u8], after: &[u8]) -> Option<Reason>
+/// The first rule that is broken about the presence and the length of the Hop-by-Hop Options header, and the packet's length.
+#[tactic(auto, unfolding(crate::specs::Headers::presence_rules))]
+pub(crate) fn presence_rules(before: &[u8], after: &[u8]) -> Option<Reason>
     requires before { 40 ≤ length before.now }
     requires after { 40 ≤ length after.now }
-    ensures { result ≡ inserted before.now after.now }
+    ensures { result ≡ first_broken (presence_rules before.now after.now) }
 {
-    let found = Value::Number(hop_octets(after) as u64);
-    row(
-        !has_hop(before) && has_hop(after),
-        Rule::HeaderInserted,
-        0,
-        NEXT_HEADER,
-        found,
-        Value::Nothing,
-    )
-}
-
-// A header that was removed.
-#[tactic(auto, unfolding(crate::specs::Headers::removed))]
-fn removed(before: &[u8], after: &[u8]) -> Option<Reason>
-    requires before { 40 ≤ length before.now }
-    requires after { 40 ≤ length after.now }
-    ensures { result ≡ removed before.now after.now }
-{
-    let wanted = Value::Number(hop_octets(before) as u64);
-    row(
-        has_hop(before) && !has_hop(after),
-        Rule::HeaderRemoved,
-        0,
-        NEXT_HEADER,
-        Value::Nothing,
-        wanted,
-    )
-}
-
-// A header of another length.
-#[tactic(auto, unfolding(crate::specs::Headers::resized))]
-fn resized(before: &[u8], after: &[u8]) -> Option<Reason>
-    requires before { 40 ≤ length before.now }
-    requires after { 40 ≤ length after.now }
-    ensures { result ≡ resized before.now after.now }
-{
-    let found = hop_octets(after);
-    let wanted = hop_octets(before);
-    row(
-        found != wanted,
-        Rule::HeaderLength,
-        0,
-        HEADER_OCTETS + 1,
-        Value::Number(found as u64),
-        Value::Number(wanted as u64),
-    )
-}
-
-// Another length of the packet.
-#[tactic(auto, unfolding(crate::specs::Headers::payload_length))]
-fn payload_length(before: &[u8], after: &[u8]) -> Option<Reason>
-    requires before { 40 ≤ length before.now }
-    requires after { 40 ≤ length after.now }
-    ensures { result ≡ payload_length before.now after.now }
-{
-    let found = Value::Number(u64::from(u16_at(after, PAYLOAD_LENGTH)));
-    let wanted = Value::Number(u64::from(u16_at(before, PAYLOAD_LENGTH)));
-    row(
-        after.len() != before.len(),
-        Rule::PayloadLength,
-        0,
-        PAYLOAD_LENGTH,
-        found,
-        wanted,
-    )
-}
-
-// Another traffic class.
-#[tactic(auto, unfolding(crate::specs::Headers::other_class))]
-fn other_class(before: &[u8], after: &[u8]) -> Option<Reason>
-    requires before { 40 ≤ length before.now }
-    requires after { 40 ≤ length after.now }
-    ensures { result ≡ other_class before.now after.now }
-{
-    let found = traffic_class(after);
-    let wanted = traffic_class(before);
-    row(
-        found != wanted,
-        Rule::TrafficClass,
-        0,
-        0,
-        Value::Number(found),
-        Value::Number(wanted),
-    )
-}
-
-// Another flow label.
-#[tactic(auto, unfolding(crate::specs::Headers::other_label))]
-fn other_label(before: &[u8], after: &[u8]) -> Option<Reason>
-    requires before { 40 ≤ length before.now }
-    requires after { 40 ≤ length after.now }
-    ensures { result ≡ other_label before.now after.now }
-{
-    let found = flow_label(after);
-    let wanted = flow_label(before);
-    row(
-        found != wanted,
-        Rule::FlowLabel,
-        0,
-        1,
-        Value::Number(found),
-        Value::Number(wanted),
-    )
-}
-
-// Another Next Header value.
-#[tactic(auto, unfolding(crate::specs::Headers::other_next))]
-fn other_next(before: &[u8], after: &[u8]) -> Option<Reason>
-    requires before { 40 ≤ length before.now }
-    requires after { 40 ≤ length after.now }
-    ensures { result ≡ other_next before.now after.now }
-{
-    let found = after[NEXT_HEADER];
-    let wanted = before[NEXT_HEADER];
-    row(
-        found != wanted,
-        Rule::NextHeader,
-        0,
-        NEXT_HEADER,
-        Value::Number(u64::from(found)),
-        Value::Number(u64::from(wanted)),
-    )
+    let found = hop_octets(after) as u64;
+    let wanted = hop_octets(before) as u64;
+    let inserted = !has_hop(before) && has_hop(after);
+    let removed = has_hop(before) && !has_hop(after);
+    let resized = after.len() != before.len();
+    first_broken(&[
+        row(
+            inserted,
+            Rule::HeaderInserted,
+            0,
+            NEXT_HEADER,
+            Value::Number(found),
+            Value::Nothing,
+        ),
+        row(
+            removed,
+            Rule::HeaderRemoved,
+            0,
+            NEXT_HEADER,
+            Value::Nothing,
+            Value::Number(wanted),
+        ),
+        number(Rule::HeaderLength, 0, HEADER_OCTETS + 1, found, wanted),
+        row(
+            resized,
+            Rule::PayloadLength,
+            0,
+            PAYLOAD_LENGTH,
+            payload_length(after),
+            payload_length(before),
+        ),
+    ])
 }
 
 // A hop limit that isn't one less.
-#[tactic(auto, unfolding(crate::specs::Headers::other_limit))]
-fn other_limit(before: &[u8], after: &[u8]) -> Option<Reason>
-    requires before { 40 ≤ length before.now }
-    requires after { 40 ≤ length after.now }
-    ensures { result ≡ other_limit before.now after.now }
+fn hop_limit(found: u8, limit: u8) -> Option<Reason>
+    ensures { result ≡ limit_rule found limit }
 {
-    let found = after[HOP_LIMIT];
-    let limit = before[HOP_LIMIT];
-    let broken = limit < 2 || u16::from(found) + 1 != u16::from(limit);
     row(
-        broken,
+        limit < 2 || u16::from(found) + 1 != u16::from(limit),
         Rule::HopLimit,
         0,
         HOP_LIMIT,
@@ -220,51 +134,27 @@ fn other_limit(before: &[u8], after: &[u8]) -> Option<Reason>
     )
 }
 
-// Another source address.
-#[tactic(auto, unfolding(crate::specs::Headers::other_source))]
-fn other_source(before: &[u8], after: &[u8]) -> Option<Reason>
-    requires before { 40 ≤ length before.now }
-    requires after { 40 ≤ length after.now }
-    ensures { result ≡ other_source before.now after.now }
-{
-    differing(Rule::Source, 0, 8, &after[8..24], &before[8..24])
-}
-
-// Another destination address.
-#[tactic(auto, unfolding(crate::specs::Headers::other_destination))]
-fn other_destination(before: &[u8], after: &[u8]) -> Option<Reason>
-    requires before { 40 ≤ length before.now }
-    requires after { 40 ≤ length after.now }
-    ensures { result ≡ other_destination before.now after.now }
-{
-    differing(Rule::Destination, 0, 24, &after[24..40], &before[24..40])
-}
-
-/// The first rule of these that is broken.
+/// The first rule that is broken about the IPv6 header.
 #[tactic(auto, unfolding(crate::specs::Headers::header_rules))]
 pub(crate) fn header_rules(before: &[u8], after: &[u8]) -> Option<Reason>
     requires before { 40 ≤ length before.now }
     requires after { 40 ≤ length after.now }
-    ensures { result ≡ header_rules before.now after.now }
+    ensures { result ≡ first_broken (header_rules before.now after.now) }
 {
-    let addresses = either(
-        other_source(before, after),
-        other_destination(before, after),
-    );
-    let rest = either(
-        other_next(before, after),
-        either(other_limit(before, after), addresses),
-    );
-    let numbers = either(
-        other_class(before, after),
-        either(other_label(before, after), rest),
-    );
-    let lengths = either(
-        resized(before, after),
-        either(payload_length(before, after), numbers),
-    );
-    either(
-        inserted(before, after),
-        either(removed(before, after), lengths),
-    )
+    let found = u64::from(after[NEXT_HEADER]);
+    let wanted = u64::from(before[NEXT_HEADER]);
+    first_broken(&[
+        number(
+            Rule::TrafficClass,
+            0,
+            0,
+            traffic_class(after),
+            traffic_class(before),
+        ),
+        number(Rule::FlowLabel, 0, 1, flow_label(after), flow_label(before)),
+        number(Rule::NextHeader, 0, NEXT_HEADER, found, wanted),
+        hop_limit(after[HOP_LIMIT], before[HOP_LIMIT]),
+        differing(Rule::Source, 0, 8, &after[8..24], &before[8..24]),
+        differing(Rule::Destination, 0, 24, &after[24..40], &before[24..40]),
+    ])
 }

@@ -4,10 +4,12 @@
 
 mod common;
 mod explain;
+mod fields;
 mod headers;
-mod payload;
+mod options;
 mod reason;
 mod rows;
+mod trace;
 
 pub use explain::why;
 pub use reason::{Reason, Rule, Value};

@@ -1,11 +1,11 @@
-//! A row of the list of rules, and what a list of rows says.
+//! A row of the list of rules, and the first that is broken.
 ghost use Rattle.std.specs.Prelude.{◌≡◌, ◌+◌, ◌≤◌, ◌<◌, ◌^◌, length};
-ghost use Rattle.ioam_explain.specs.Rows.{differing, either, row};
+ghost use Rattle.ioam_explain.specs.Rows.{differing, first_broken, number, octet, row};
 
 use crate::common::common;
 use crate::reason::{Reason, Rule, Value};
 
-/// The reason of a rule, if it is broken.
+/// The reason of a rule, if it is broken: the trace, 0 for none, the octet, what is there and what is wanted.
 #[tactic(auto, unfolding(crate::specs::Rows::row))]
 pub(crate) fn row(
     broken: bool,
@@ -30,19 +30,38 @@ pub(crate) fn row(
     }
 }
 
-/// The first of two reasons.
-#[tactic(auto, unfolding(crate::specs::Rows::either))]
-pub(crate) fn either(first: Option<Reason>, second: Option<Reason>) -> Option<Reason>
-    ensures { result ≡ either first second }
+/// The reason of a rule that wants a number.
+#[tactic(auto, unfolding(crate::specs::Rows::number))]
+pub(crate) fn number(rule: Rule, trace: usize, at: usize, found: u64, wanted: u64) -> Option<Reason>
+    ensures { result ≡ number rule trace at found wanted }
 {
-    match first {
-        Some(reason) => Some(reason),
-        None => second,
-    }
+    row(
+        found != wanted,
+        rule,
+        trace,
+        at,
+        Value::Number(found),
+        Value::Number(wanted),
+    )
 }
 
-/// The reason of a rule that wants octets to stay, if they differ: the first that does.
-#[tactic(auto, unfolding(crate::specs::Rows::differing))]
+/// The reason of a rule that wants an octet.
+#[tactic(auto, unfolding(crate::specs::Rows::octet))]
+pub(crate) fn octet(rule: Rule, trace: usize, at: usize, found: u8, wanted: u8) -> Option<Reason>
+    ensures { result ≡ octet rule trace at found wanted }
+{
+    row(
+        found != wanted,
+        rule,
+        trace,
+        at,
+        Value::Octet(found),
+        Value::Octet(wanted),
+    )
+}
+
+/// The reason of a rule that wants octets, from octet `at` on: the first that differs.
+#[tactic(auto, unfolding(crate::specs::Rows::differing, crate::specs::Rows::row))]
 pub(crate) fn differing(
     rule: Rule,
     trace: usize,
@@ -58,11 +77,24 @@ pub(crate) fn differing(
     if same == found.len() {
         return None;
     }
-    Some(Reason {
+    row(
+        true,
         rule,
         trace,
-        at: at + same,
-        found: Value::Octet(found[same]),
-        wanted: Value::Octet(wanted[same]),
-    })
+        at + same,
+        Value::Octet(found[same]),
+        Value::Octet(wanted[same]),
+    )
+}
+
+/// The first reason of a list of rows.
+pub(crate) fn first_broken(rows: &[Option<Reason>]) -> Option<Reason>
+    ensures { result ≡ first_broken rows.now }
+{
+    for row in rows.iter() {
+        if let Some(reason) = row {
+            return Some(*reason);
+        }
+    }
+    None
 }
