@@ -1,13 +1,15 @@
 //! Whether a node may have sent a packet on as another.
-ghost use Rattle.std.specs.Prelude.{◌≡◌, ◌<◌, ◌≤◌, ◌-◌, ◌↔◌, ℕ, List, IsTrue, IfSome, length, slice_index, slice_get};
+ghost use Rattle.std.specs.Prelude.{◌≡◌, ◌<◌, ◌≤◌, ◌-◌, ◌↔◌, ℕ, List, IsTrue, length, slice_index, slice_get};
 ghost use Rattle.ioam_clock.specs.declared.sample.Sample.{Sample};
 ghost use Rattle.ioam_ip.specs.Chain.{IsSound};
 ghost use Rattle.ioam_ip.specs.Hop.{hop_options};
 ghost use Rattle.ioam_ip.specs.Packet.{IsPacket};
+ghost use Rattle.ioam_node.specs.Outward.{outward_of};
 ghost use Rattle.ioam_node.specs.declared.place.Place.{Place};
 ghost use Rattle.ioam_node_visit.specs.Seeing.{id_of};
 ghost use Rattle.ioam_node_visit.specs.Stepped.{Stepped};
 ghost use Rattle.ioam_topo.specs.Domain.{links, nodes};
+ghost use Rattle.ioam_topo.specs.declared.ids.Way.{Way};
 ghost use Rattle.ioam_audit.specs.Header.{AreLeft, IsLowered};
 ghost use Rattle.ioam_audit.specs.Sent.{IsSentAs, end_of};
 
@@ -82,9 +84,9 @@ pub fn legal(domain: &Domain, node: NodeId, link: LinkId, before: &[u8], after: 
     requires packet { IsPacket before.now }
     requires sound { IsSound before.now }
     ensures legal { IsTrue result ↔ IsSentAs domain.now node.0 (end_of (slice_get (links domain.now) link.0)) before.now after.now }
-    // What the node of this domain itself leaves of a packet, place by place, is legal.
-    ensures steps { (readings : List (List Sample)) (place : Place) (time : ℕ) → place.node.0 ≡ node.0
-        → place.inward ≡ end_of (slice_get (links domain.now) link.0) → IfSome place.outward (λ number. number < 4294967296)
+    // What the node of this domain itself leaves of a packet that it sends on by a link or a port, offset by offset, is legal.
+    ensures steps { (readings : List (List Sample)) (place : Place) (way : Way) (time : ℕ) → place.node.0 ≡ node.0
+        → place.inward ≡ end_of (slice_get (links domain.now) link.0) → place.outward ≡ outward_of domain.now way
         → 2 ≤ slice_index before.now 7
         → Stepped domain.now readings place time (slice_index before.now 7 - 1) (slice_index before.now 7 - 1) before.now after.now
         → IsTrue result }

@@ -32,7 +32,7 @@ returns-clause-legal c =
     )
 
 pub returns-clause-steps : goal.returns-clause-steps
-returns-clause-steps c readings place time at by outward limit stepped =
+returns-clause-steps c readings place way time at by leaves limit stepped =
     let domain = c.args.domain.now in
     let node = c.args.node.0 in
     let before = c.args.before.now in
@@ -40,5 +40,5 @@ returns-clause-steps c readings place time at by outward limit stepped =
     let known = c.sight_of-sight.result in
     let is = c.sight_of-sight.ensures in
     let link = end_of (slice_get (links domain) c.args.link.0) in
-    let parts = sent-parts domain node link before after (stepped-sent domain readings place time before after node link at by outward limit stepped) in
+    let parts = sent-parts domain node link before after (stepped-sent domain readings place time before after node link way at by leaves limit stepped) in
     c.is_sent.ensures.1 (parts.0, parts.1, told domain node _ _ _ known.hops known.id known.inward before after (sym is.hops) (sym is.id) (sym is.inward) parts.2)
