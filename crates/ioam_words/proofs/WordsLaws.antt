@@ -1,7 +1,9 @@
 -- Laws of the words that spell numbers, and of which command words are.
-use Rattle.std.proofs.Common.{◌≡◌, ℕ, ◌<◌, Bool, true, false, List, Option, Some, None, get_or, refl, sym, ◌∙◌, ap, subst, arith}
-use Rattle.std.specs.Prelude.{◌↔◌, ◌+◌, ◌*◌, ◌^◌, MatchOption, if◌then◌else◌, codes, decimal, nat_eq, nat_lt}
-use Rattle.std.proofs.lemmas.Bool.{ltb-true, ltb-false}
+use Rattle.std.proofs.Common.{◌≡◌, ℕ, ◌<◌, Bool, true, false, cond, List, [], ◌∷◌, length, Option, Some, None, IsSomeAnd, option_map, map, slice_get, get_or, refl, sym, ◌∙◌, ap, subst, arith}
+use Rattle.std.specs.Prelude.{◌↔◌, ◌^◌, MatchOption, if◌then◌else◌, codes, decimal, find, nat_eq, nat_lt}
+use Rattle.std.specs.List.{list_all}
+use Rattle.std.specs.Str.{bytes_eq}
+use Rattle.std.proofs.lemmas.Bool.{and_parts, eqb-true, ltb-true, ltb-false}
 use Rattle.std.proofs.lemmas.Fmt.{decimal_injective}
 use Rattle.std.proofs.lemmas.Option.{none-some}
 use Rattle.ioam_base.proofs.DecimalLaws.{decimal_iff}
@@ -9,9 +11,12 @@ use Rattle.ioam_desk_outputs.specs.Names.{name_at}
 use Rattle.ioam_topo.specs.declared.format.Format.{Format}
 use Rattle.ioam_topo.specs.declared.format.Format.TheVariants.{Ptp, Ntp, Posix}
 use Rattle.ioam_words.specs.Formats.{format_name}
-use Rattle.ioam_words.specs.Words.{IsCount, IsForm, IsSeed, IsWorkers}
+use Rattle.ioam_words.specs.Words.{FormRow, IsBulk, IsCount, IsForm, IsNoBulk, IsNoForm, IsSeed, IsWorkers, Spells, count_asked, count_of, form_for, forms, row_of}
+use Rattle.ioam_words.specs.declared.command.Asks.{Asks}
+use Rattle.ioam_words.specs.declared.command.Asks.TheVariants as asks
+use Rattle.ioam_words.specs.declared.command.Form.{Form}
 use Rattle.ioam_words.specs.declared.command.Command.{Command}
-use Rattle.ioam_words.specs.declared.command.Command.TheVariants.{Filter, Leaks, Paths, Delays, Show, Save, Node, Audit, Run, Bulk, Collect, Ipfix, Records, Part, Merge, Parts}
+use Rattle.ioam_words.specs.declared.command.Command.TheVariants.{Delays, Run, Bulk}
 
 -- the greatest seed
 pub greatest : codes "18446744073709551615" ≡ decimal 18446744073709551615
@@ -37,105 +42,6 @@ spells_seed word (Some n) reads other =
 
 -- ---- words are of one command's form at most
 
--- a command's own word
-abbrev named : Command → List ℕ
-named Filter = codes "filter"
-named Leaks = codes "leaks"
-named Paths = codes "paths"
-named (Delays format) = codes "delays"
-named Show = codes "show"
-named Save = codes "save"
-named Node = codes "node"
-named Audit = codes "audit"
-named (Run workers) = codes "run"
-named (Bulk seed count workers) = codes "bulk"
-named Collect = codes "collect"
-named Ipfix = codes "ipfix"
-named Records = codes "records"
-named Part = codes "part"
-named Merge = codes "merge"
-named Parts = codes "parts"
-
-is_named : (command : Command) (words : List (List ℕ)) → IsForm command words → name_at words 0 ≡ named command
-is_named Filter words form = form.1
-is_named Leaks words form = form.1
-is_named Paths words form = form.1
-is_named (Delays format) words form = form.1
-is_named Show words form = form.1
-is_named Save words form = form.1
-is_named Node words form = form.1
-is_named Audit words form = form.1
-is_named (Run workers) words form = form.1
-is_named (Bulk seed count workers) words form = form.1
-is_named Collect words form = form.1
-is_named Ipfix words form = form.1
-is_named Records words form = form.1
-is_named Part words form = form.1
-is_named Merge words form = form.1
-is_named Parts words form = form.1
-
--- a number by which these words differ: their first, second, third and fifth letters
-abbrev key_of : List ℕ → ℕ
-key_of word = get_or word 0 0 + 256 * get_or word 1 0 + 65536 * get_or word 2 0 + 16777216 * get_or word 4 0
-
--- the command of a key, with this format and these numbers
-abbrev keyed : ℕ → Format → ℕ → ℕ → ℕ → Command
-keyed key format seed count workers =
-    if nat_eq key (key_of (codes "filter")) then Filter
-    else if nat_eq key (key_of (codes "leaks")) then Leaks
-    else if nat_eq key (key_of (codes "paths")) then Paths
-    else if nat_eq key (key_of (codes "delays")) then Delays format
-    else if nat_eq key (key_of (codes "show")) then Show
-    else if nat_eq key (key_of (codes "save")) then Save
-    else if nat_eq key (key_of (codes "node")) then Node
-    else if nat_eq key (key_of (codes "audit")) then Audit
-    else if nat_eq key (key_of (codes "run")) then Run workers
-    else if nat_eq key (key_of (codes "bulk")) then Bulk seed count workers
-    else if nat_eq key (key_of (codes "collect")) then Collect
-    else if nat_eq key (key_of (codes "ipfix")) then Ipfix
-    else if nat_eq key (key_of (codes "records")) then Records
-    else if nat_eq key (key_of (codes "part")) then Part
-    else if nat_eq key (key_of (codes "merge")) then Merge
-    else Parts
-
-abbrev format_in : Command → Format
-format_in (Delays format) = format
-format_in _ = Ptp
-
-abbrev seed_in : Command → ℕ
-seed_in (Bulk seed count workers) = seed
-seed_in _ = 0
-
-abbrev count_in : Command → ℕ
-count_in (Bulk seed count workers) = count
-count_in _ = 0
-
-abbrev workers_in : Command → ℕ
-workers_in (Run workers) = workers
-workers_in (Bulk seed count workers) = workers
-workers_in _ = 0
-
-abbrev with_words_of : Command → ℕ → Command
-with_words_of command key = keyed key (format_in command) (seed_in command) (count_in command) (workers_in command)
-
-is_keyed : (command : Command) → with_words_of command (key_of (named command)) ≡ command
-is_keyed Filter = refl
-is_keyed Leaks = refl
-is_keyed Paths = refl
-is_keyed (Delays format) = refl
-is_keyed Show = refl
-is_keyed Save = refl
-is_keyed Node = refl
-is_keyed Audit = refl
-is_keyed (Run workers) = refl
-is_keyed (Bulk seed count workers) = refl
-is_keyed Collect = refl
-is_keyed Ipfix = refl
-is_keyed Records = refl
-is_keyed Part = refl
-is_keyed Merge = refl
-is_keyed Parts = refl
-
 -- the format that one of these words stands for, by their first and second letters
 abbrev format_by : List ℕ → Format
 format_by word = if nat_eq (get_or word 0 0) 110 then Ntp else if nat_eq (get_or word 1 0) 111 then Posix else Ptp
@@ -149,44 +55,129 @@ is_by Posix = refl
 same_format : (one format : Format) → format_name one ≡ format_name format → one ≡ format
 same_format one format names = sym (is_by one) ∙ ap format_by names ∙ is_by format
 
+same_workers : (one workers : ℕ) (word : List ℕ) → IsWorkers one word → IsWorkers workers word → one ≡ workers
+same_workers one workers word is form = decimal_injective one workers (omega (arith, is.2)) (omega (arith, form.2)) (sym is.0 ∙ form.0)
+
+same_count : (one count : ℕ) (word : List ℕ) → IsCount one word → IsCount count word → one ≡ count
+same_count one count word is form = decimal_injective one count (omega (arith, is.2)) (omega (arith, form.2)) (sym is.0 ∙ form.0)
+
+-- three words spell one generated load at most
+same_bulk : (first second third : List ℕ) (one command : Command) → IsBulk first second third one → IsBulk first second third command → one ≡ command
+same_bulk first second third (Bulk seed count workers) (Bulk other few hands) is form =
+    let seeds : seed ≡ other = decimal_injective seed other is.0.1 form.0.1 (sym is.0.0 ∙ form.0.0) in
+    let counts : count ≡ few = same_count count few second is.1 form.1 in
+    let numbers : workers ≡ hands = same_workers workers hands third is.2 form.2 in
+    ap (λ n. Bulk n count workers) seeds ∙ ap (λ n. Bulk other n workers) counts ∙ ap (λ n. Bulk other few n) numbers
+same_bulk first second third (Bulk seed count workers) command is form = absurd form
+same_bulk first second third one command is form = absurd is
+
+pub no_bulk : (first second third : List ℕ) → IsNoBulk first second third → (command : Command) → IsBulk first second third command → ⊥
+no_bulk first second third none (Bulk seed count workers) is = none seed count workers is.0 is.1 is.2
+no_bulk first second third none command is = is
+
 module _ (words : List (List ℕ)) where
-  -- another command of these words is this one, with its own format and numbers
-  other : (one command : Command) → IsForm one words → IsForm command words → with_words_of command (key_of (named one)) ≡ command
-  other one command is form =
-      ap (λ word. with_words_of command (key_of word)) (sym (is_named one words is) ∙ is_named command words form) ∙ is_keyed command
+  -- what is asked for is spelt by one command at most
+  one_spelt : (asked : Asks) (one command : Command) → Spells asked words one → Spells asked words command → one ≡ command
+  one_spelt (asks.Names own) one command is form = is ∙ sym form
+  one_spelt asks.Format (Delays one) (Delays format) is form = ap Delays (same_format one format (sym is ∙ form))
+  one_spelt asks.Format (Delays one) command is form = absurd form
+  one_spelt asks.Format one command is form = absurd is
+  one_spelt asks.Workers (Run one) (Run workers) is form = ap Run (same_workers one workers (name_at words 3) is form)
+  one_spelt asks.Workers (Run one) command is form = absurd form
+  one_spelt asks.Workers one command is form = absurd is
+  one_spelt asks.Load one command is form = same_bulk (name_at words 1) (name_at words 2) (name_at words 3) one command is form
 
-  same_workers : (one workers : ℕ) (word : List ℕ) → IsWorkers one word → IsWorkers workers word → one ≡ workers
-  same_workers one workers word is form = decimal_injective one workers (omega (arith, is.2)) (omega (arith, form.2)) (sym is.0 ∙ form.0)
-
-  same_count : (one count : ℕ) (word : List ℕ) → IsCount one word → IsCount count word → one ≡ count
-  same_count one count word is form = decimal_injective one count (omega (arith, is.2)) (omega (arith, form.2)) (sym is.0 ∙ form.0)
+  one_found : (found : Option FormRow) (one command : Command) → IsSomeAnd found (λ row. Spells row.asks words one)
+      → IsSomeAnd found (λ row. Spells row.asks words command) → one ≡ command
+  one_found None one command is form = absurd is
+  one_found (Some row) one command is form = one_spelt row.asks one command is form
 
   pub one_form : (one command : Command) → IsForm one words → IsForm command words → one ≡ command
-  one_form Filter command is form = other Filter command is form
-  one_form Leaks command is form = other Leaks command is form
-  one_form Paths command is form = other Paths command is form
-  one_form Show command is form = other Show command is form
-  one_form Save command is form = other Save command is form
-  one_form Node command is form = other Node command is form
-  one_form Audit command is form = other Audit command is form
-  one_form Collect command is form = other Collect command is form
-  one_form Ipfix command is form = other Ipfix command is form
-  one_form Records command is form = other Records command is form
-  one_form Part command is form = other Part command is form
-  one_form Merge command is form = other Merge command is form
-  one_form Parts command is form = other Parts command is form
-  one_form (Delays format) command is form =
-      let same : Delays (format_in command) ≡ command = other (Delays format) command is form in
-      let its : IsForm (Delays (format_in command)) words = subst (λ k. IsForm k words) (sym same) form in
-      ap Delays (same_format format (format_in command) (sym is.2 ∙ its.2)) ∙ same
-  one_form (Run workers) command is form =
-      let same : Run (workers_in command) ≡ command = other (Run workers) command is form in
-      let its : IsForm (Run (workers_in command)) words = subst (λ k. IsForm k words) (sym same) form in
-      ap Run (same_workers workers (workers_in command) (name_at words 3) is.2 its.2) ∙ same
-  one_form (Bulk seed count workers) command is form =
-      let same : Bulk (seed_in command) (count_in command) (workers_in command) ≡ command = other (Bulk seed count workers) command is form in
-      let its : IsForm (Bulk (seed_in command) (count_in command) (workers_in command)) words = subst (λ k. IsForm k words) (sym same) form in
-      let seeds : seed ≡ seed_in command = decimal_injective seed (seed_in command) is.2.1 its.2.1 (sym is.2.0 ∙ its.2.0) in
-      let counts : count ≡ count_in command = same_count count (count_in command) (name_at words 2) is.3 its.3 in
-      let numbers : workers ≡ workers_in command = same_workers workers (workers_in command) (name_at words 3) is.4 its.4 in
-      ap (λ n. Bulk n count workers) seeds ∙ ap (λ n. Bulk (seed_in command) n workers) counts ∙ ap (λ n. Bulk (seed_in command) (count_in command) n) numbers ∙ same
+  one_form one command is form = one_found (form_for words) one command is.1 form.1
+
+  -- and by one of as many words as its form has
+  spelt_count : (asked : Asks) (command : Command) → Spells asked words command → count_of command ≡ count_asked asked
+  spelt_count (asks.Names own) command is = ap count_of is
+  spelt_count asks.Format (Delays format) is = refl
+  spelt_count asks.Format command is = absurd is
+  spelt_count asks.Workers (Run workers) is = refl
+  spelt_count asks.Workers command is = absurd is
+  spelt_count asks.Load (Bulk seed count workers) is = refl
+  spelt_count asks.Load command is = absurd is
+
+-- ---- the form that is found
+
+-- a row that is found passes each test that all rows pass
+module _ (p q : FormRow → Bool) (found : FormRow) where
+  passes_by : (row : FormRow) (rows : List FormRow) (here : Bool) → q row ≡ true → (find p rows ≡ Some found → q found ≡ true)
+      → cond here (Some row) (find p rows) ≡ Some found → q found ≡ true
+  passes_by row rows true passes rest is = let same : row ≡ found = cc is in ap q (sym same) ∙ passes
+  passes_by row rows false passes rest is = rest is
+
+  found_passes : (rows : List FormRow) → list_all q rows ≡ true → find p rows ≡ Some found → q found ≡ true
+  found_passes [] all is = absurd (cc is)
+  found_passes (row ∷ rows) all is =
+      let both = and_parts (q row) (list_all q rows) all in passes_by row rows (p row) both.0 (found_passes rows both.1) is
+
+-- the form of a name is found among rows as among what they say
+module _ (name : List ℕ) where
+  abbrev in_code : Form → Bool
+  in_code row = bytes_eq row.name.now name
+
+  abbrev in_table : FormRow → Bool
+  in_table row = bytes_eq row.name name
+
+  row_by : (row : Form) (rows : List Form) (here : Bool) → find in_table (map row_of rows) ≡ option_map row_of (find in_code rows)
+      → cond here (Some (row_of row)) (find in_table (map row_of rows)) ≡ option_map row_of (cond here (Some row) (find in_code rows))
+  row_by row rows true rest = refl
+  row_by row rows false rest = rest
+
+  find_row : (rows : List Form) → find in_table (map row_of rows) ≡ option_map row_of (find in_code rows)
+  find_row [] = refl
+  find_row (row ∷ rows) = row_by row rows (in_code row) (find_row rows)
+
+first_is : (words : List (List ℕ)) (name : List ℕ) → Some name ≡ slice_get words 0 → name ≡ name_at words 0
+first_is [] name is = absurd (cc is)
+first_is (word ∷ words) name is = cc is
+
+-- so is the form of the first word, among the rows of the table
+pub form_found : (words : List (List ℕ)) (name : List ℕ) (rows : List Form) (found : Option Form) (first : List ℕ) → name ≡ first → Some first ≡ slice_get words 0 → map row_of rows ≡ forms
+    → found ≡ find (λ row. bytes_eq row.name.now name) rows → form_for words ≡ option_map row_of found
+unfolding form_for
+form_found words name rows found first same there all is =
+    ap (λ (n : List ℕ). find (λ row. bytes_eq row.name n) forms) (sym (same ∙ first_is words first there)) ∙ ap (find (λ row. bytes_eq row.name name)) (sym all)
+    ∙ find_row name rows ∙ ap (option_map row_of) (sym is)
+
+-- a row has as many words as the command that they spell
+abbrev counts : FormRow → Bool
+counts row = nat_eq row.count (count_asked row.asks)
+
+all_count : list_all counts forms ≡ true
+unfolding forms
+all_count = refl
+
+module _ (words : List (List ℕ)) where
+  pub no_words : words ≡ [] → IsNoForm words
+  unfolding form_for forms
+  no_words none command is = (subst (IsForm command) none is).1
+
+  pub no_name : form_for words ≡ None → IsNoForm words
+  no_name none command is = let P : Option FormRow → Type 0 = λ found. IsSomeAnd found (λ row. Spells row.asks words command) in subst P none is.1
+
+  module _ (row : FormRow) (found : form_for words ≡ Some row) where
+    abbrev Spelt : Command → Option FormRow → Type 0
+    Spelt command at = IsSomeAnd at (λ r. Spells r.asks words command)
+
+    pub row_count : row.count ≡ count_asked row.asks
+    unfolding form_for
+    row_count = eqb-true row.count (count_asked row.asks) (found_passes (λ r. bytes_eq r.name (name_at words 0)) counts row forms all_count found)
+
+    pub no_count : (length words ≡ row.count → ⊥) → IsNoForm words
+    no_count differs command is = differs (is.0 ∙ spelt_count words row.asks command (subst (Spelt command) found is.1) ∙ sym row_count)
+
+    pub by_row : (answer : Option Command) → length words ≡ row.count
+        → MatchOption answer ((command : Command) → Spells row.asks words command → ⊥) (λ command. Spells row.asks words command)
+        → MatchOption answer (IsNoForm words) (λ command. IsForm command words)
+    by_row None many none = λ command is. none command (subst (Spelt command) found is.1)
+    by_row (Some command) many spells =
+        (many ∙ row_count ∙ sym (spelt_count words row.asks command spells), subst (Spelt command) (sym found) spells)

@@ -3,6 +3,7 @@
 
 mod command;
 mod format;
+mod numbers;
 mod usage;
 
 pub use command::{Command, parse};
