@@ -1,66 +1,24 @@
 -- A record has one verdict only.
-use Rattle.std.proofs.Common.{◌≡◌, ℕ, ◌≤◌, List, [], ◌∷◌, length, Option, Some, arith, refl, sym, ap, ◌∙◌, subst}
+use Rattle.std.proofs.Common.{◌≡◌, ℕ, ◌≤◌, List, [], ◌∷◌, length, Some, arith, refl, sym, ap, ◌∙◌, subst}
 use Rattle.ioam_ip.specs.Framing.{Framing, Holds, NoIpv6, CutShort, TooShort}
 use Rattle.ioam_node.specs.Admission.{reason_of}
+use Rattle.ioam_node.specs.Order.{NoneHolds}
 use Rattle.ioam_node.specs.declared.reason.Reason.{Reason}
-use Rattle.ioam_node.specs.declared.reason.Reason.TheVariants as reason
+use Rattle.ioam_node.proofs.OrderLaws.{first-holds, first-unique}
 use Rattle.ioam_pcap.specs.Entries.{Taken}
-use Rattle.ioam_run_capture.specs.Verdict.{Verdict, Keeps, Drops, PacketVerdict, FramingVerdict, HasVerdict, AreVerdicts}
+use Rattle.ioam_run_capture.specs.Verdict.{Verdict, Keeps, Drops, drops, PacketVerdict, FramingVerdict, HasVerdict, AreVerdicts}
 use Rattle.ioam_run_capture.specs.Judgement.{IsWithin}
 use Rattle.ioam_run_stream.specs.Frame.{taken_framing}
 
 module _ (packet : List ℕ) where
-  one_reason : (first_why other : Reason) → PacketVerdict packet (Drops first_why) → PacketVerdict packet (Drops other) → first_why ≡ other
-  one_reason reason.NotIpv6 other first second = absurd first
-  one_reason reason.Cut other first second = absurd first
-  one_reason reason.Length other first second = absurd first
-  one_reason reason.Chain reason.NotIpv6 first second = absurd second
-  one_reason reason.Chain reason.Cut first second = absurd second
-  one_reason reason.Chain reason.Length first second = absurd second
-  one_reason reason.Chain reason.Chain first second = refl
-  one_reason reason.Chain reason.IoamIn first second = absurd (first second.0)
-  one_reason reason.Chain reason.Local first second = absurd second
-  one_reason reason.Chain reason.HopLimit first second = absurd second
-  one_reason reason.Chain reason.NoRoute first second = absurd second
-  one_reason reason.Chain reason.EncapLimit first second = absurd second
-  one_reason reason.Chain reason.TooBig first second = absurd second
-  one_reason reason.Chain reason.IoamOut first second = absurd second
-  one_reason reason.IoamIn reason.NotIpv6 first second = absurd second
-  one_reason reason.IoamIn reason.Cut first second = absurd second
-  one_reason reason.IoamIn reason.Length first second = absurd second
-  one_reason reason.IoamIn reason.Chain first second = absurd (second first.0)
-  one_reason reason.IoamIn reason.IoamIn first second = refl
-  one_reason reason.IoamIn reason.Local first second = absurd second
-  one_reason reason.IoamIn reason.HopLimit first second = absurd second
-  one_reason reason.IoamIn reason.NoRoute first second = absurd second
-  one_reason reason.IoamIn reason.EncapLimit first second = absurd second
-  one_reason reason.IoamIn reason.TooBig first second = absurd second
-  one_reason reason.IoamIn reason.IoamOut first second = absurd second
-  one_reason reason.Local other first second = absurd first
-  one_reason reason.HopLimit other first second = absurd first
-  one_reason reason.NoRoute other first second = absurd first
-  one_reason reason.EncapLimit other first second = absurd first
-  one_reason reason.TooBig other first second = absurd first
-  one_reason reason.IoamOut other first second = absurd first
-
-  not_both : (why : Reason) (packet_kept : List ℕ) → PacketVerdict packet (Keeps packet_kept) → PacketVerdict packet (Drops why) → ⊥
-  not_both reason.NotIpv6 packet_kept kept dropped = dropped
-  not_both reason.Cut packet_kept kept dropped = dropped
-  not_both reason.Length packet_kept kept dropped = dropped
-  not_both reason.Chain packet_kept kept dropped = dropped kept.1
-  not_both reason.IoamIn packet_kept kept dropped = kept.2 dropped.1
-  not_both reason.Local packet_kept kept dropped = dropped
-  not_both reason.HopLimit packet_kept kept dropped = dropped
-  not_both reason.NoRoute packet_kept kept dropped = dropped
-  not_both reason.EncapLimit packet_kept kept dropped = dropped
-  not_both reason.TooBig packet_kept kept dropped = dropped
-  not_both reason.IoamOut packet_kept kept dropped = dropped
+  none_drops : (kept : List ℕ) → PacketVerdict packet (Keeps kept) → NoneHolds (drops packet)
+  none_drops kept keeps = ((λ bad. bad keeps.1), ((λ ioam. keeps.2 ioam.1), tt))
 
   one_verdict : (first other : Verdict) → PacketVerdict packet first → PacketVerdict packet other → first ≡ other
   one_verdict (Keeps a) (Keeps b) x y = ap (λ (p : List ℕ). Keeps p) (x.0 ∙ sym y.0)
-  one_verdict (Keeps a) (Drops why) x y = absurd (not_both why a x y)
-  one_verdict (Drops why) (Keeps b) x y = absurd (not_both why b y x)
-  one_verdict (Drops why) (Drops other) x y = ap (λ (r : Reason). Drops r) (one_reason why other x y)
+  one_verdict (Keeps a) (Drops why) x y = absurd (first-holds (drops packet) why y (none_drops a x))
+  one_verdict (Drops why) (Keeps b) x y = absurd (first-holds (drops packet) why x (none_drops b y))
+  one_verdict (Drops why) (Drops other) x y = ap (λ (r : Reason). Drops r) (first-unique (drops packet) why other x y)
 
 -- of a frame
 one_of_frame : (framing : Framing) (first other : Verdict) → FramingVerdict framing first → FramingVerdict framing other → first ≡ other

@@ -6,6 +6,7 @@ use Rattle.ioam_ip.specs.Chain.{IsSound}
 use Rattle.ioam_ip.specs.ChainOptions.{CarriesIoam}
 use Rattle.ioam_pcap.specs.Entries.{Taken}
 use Rattle.ioam_run_stream.specs.Frame.{taken_framing}
+use Rattle.ioam_node.specs.Order.{Stop, stop, IsFirst}
 use Rattle.ioam_node.specs.declared.reason.Reason.{Reason}
 use Rattle.ioam_node.specs.declared.reason.Reason.TheVariants as reason
 
@@ -14,20 +15,14 @@ pub data Verdict : Type 0 where
   Keeps : (packet : List ℕ) → Verdict
   Drops : Reason → Verdict
 
--- the packet is kept where its chain is whole and no options header on it has an IOAM option
+-- why a packet is dropped, in the order in which it is looked for
+abbrev pub drops : List ℕ → List Stop
+drops packet = stop reason.Chain (IsSound packet → ⊥) ∷ stop reason.IoamIn (IsSound packet × CarriesIoam packet) ∷ []
+
+-- the packet is kept if its chain is whole and no options header on it has an IOAM option
 abbrev pub PacketVerdict : List ℕ → Verdict → Type 0
 PacketVerdict packet (Keeps kept) = (kept ≡ packet) × IsSound packet × (CarriesIoam packet → ⊥)
-PacketVerdict packet (Drops reason.NotIpv6) = ⊥
-PacketVerdict packet (Drops reason.Cut) = ⊥
-PacketVerdict packet (Drops reason.Length) = ⊥
-PacketVerdict packet (Drops reason.Chain) = IsSound packet → ⊥
-PacketVerdict packet (Drops reason.IoamIn) = IsSound packet × CarriesIoam packet
-PacketVerdict packet (Drops reason.Local) = ⊥
-PacketVerdict packet (Drops reason.HopLimit) = ⊥
-PacketVerdict packet (Drops reason.NoRoute) = ⊥
-PacketVerdict packet (Drops reason.EncapLimit) = ⊥
-PacketVerdict packet (Drops reason.TooBig) = ⊥
-PacketVerdict packet (Drops reason.IoamOut) = ⊥
+PacketVerdict packet (Drops reason) = IsFirst (drops packet) reason
 
 -- the verdict on a frame: that on its packet, or the reason why it has none
 abbrev pub FramingVerdict : Framing → Verdict → Type 0
