@@ -16,7 +16,7 @@ use Rattle.ioam_data.specs.Table.{table}
 use Rattle.ioam_dex.specs.Record.{Record}
 use Rattle.ioam_pool.specs.Entry.{Entry}
 use Rattle.ioam_pool.specs.Order.{IsInOrder}
-use Rattle.ioam_collect.specs.Keyed.{key_cmp, hops_of, keyed_of, with_keyed, keyed}
+use Rattle.ioam_collect.specs.Keyed.{key_cmp, hops_in, keyed_of, with_keyed, keyed}
 use Rattle.ioam_collect.specs.Best.{kept_of, of_key, keys_in, group, groups_of}
 use Rattle.ioam_collect.specs.Gathered.{Gathered, group_in, AreOf}
 use Rattle.ioam_collect.specs.Adds.{Adds, IsOf}
@@ -43,9 +43,9 @@ has_none kind none =
     let wide : where_has kind 8 2 ≡ 0 = omega arith in
     (where_zero (has kind 0) 0 first, where_zero (has kind 8) 1 wide)
 
-no_hops_void : (x : Record) → has x.kind 0 ≡ false → has x.kind 8 ≡ false → hops_of x ≡ None
+no_hops_void : (kind : ℕ) (e : List ℕ) → has kind 0 ≡ false → has kind 8 ≡ false → hops_in kind e ≡ None
 unfolding fields_of table
-no_hops_void x first wide = rw (first, wide) refl
+no_hops_void kind e first wide = rw (first, wide) refl
 
 pub zero_from : (n : ℕ) → true ≡ (n == 0) → n ≡ 0
 zero_from n is = elim (cases_eq n 0) [
@@ -53,25 +53,25 @@ zero_from n is = elim (cases_eq n 0) [
   | inr other ↦ let isnt = ne_eqb n 0 other in absurd (cc (is, isnt))
 ]
 
-pub no_hops : (x : Record) → IsFilled x.kind x.element → length x.element ≡ 0 → hops_of x ≡ None
-no_hops x (inl element) none =
+pub no_hops : (kind : ℕ) (e : List ℕ) → IsFilled kind e → length e ≡ 0 → hops_in kind e ≡ None
+no_hops kind e (inl element) none =
     let some = element.stands.filled in
     let whole = element.whole in
     absurd (omega arith)
-no_hops x (inr void) none = let both = has_none x.kind void.wordless in no_hops_void x both.0 both.1
+no_hops kind e (inr void) none = let both = has_none kind void.wordless in no_hops_void kind e both.0 both.1
 
 -- a type with bit 0 has an element, which begins with the hop value
-pub first_room : (x : Record) → IsFilled x.kind x.element → has x.kind 0 ≡ true → 4 ≤ length x.element
+pub first_room : (kind : ℕ) (e : List ℕ) → IsFilled kind e → has kind 0 ≡ true → 4 ≤ length e
 unfolding words table
-first_room x (inl element) first =
+first_room kind e (inl element) first =
     let whole = element.whole in
-    let one : where_has x.kind 0 1 ≡ 1 = rw first refl in
+    let one : where_has kind 0 1 ≡ 1 = rw first refl in
     omega arith
-first_room x (inr void) first = let none = (has_none x.kind void.wordless).0 in absurd (cc (none, first))
+first_room kind e (inr void) first = let none = (has_none kind void.wordless).0 in absurd (cc (none, first))
 
-pub first_hops : (x : Record) → has x.kind 0 ≡ true → hops_of x ≡ Some (u32_at x.element 0 / 16777216)
+pub first_hops : (kind : ℕ) (e : List ℕ) → has kind 0 ≡ true → hops_in kind e ≡ Some (u32_at e 0 / 16777216)
 unfolding fields_of table
-first_hops x first = rw first refl
+first_hops kind e first = rw first refl
 
 -- ---- one record more
 

@@ -19,11 +19,15 @@ hop_by (Some first) wide = Some first.0
 hop_by None (Some wide) = Some wide.0
 hop_by None None = None
 
--- the hop value of a record: that of bit 0 of its type, or of bit 8 where bit 0 isn't there (RFC 9197 section 4.4.2)
-abbrev pub hops_of : Record → Option ℕ
-hops_of x =
-    let held = fields_of x.kind (words x.kind) x.element in
+-- the hop value of an element of a type: that of bit 0, or of bit 8 where bit 0 isn't there (RFC 9197 section 4.4.2)
+abbrev pub hops_in : ℕ → List ℕ → Option ℕ
+hops_in kind element =
+    let held = fields_of kind (words kind) element in
     hop_by held.hop_node held.wide_hop_node
+
+-- the hop value of a record
+abbrev pub hops_of : Record → Option ℕ
+hops_of x = hops_in x.kind x.element
 
 -- the version 1 record of a record, which tells no visit
 abbrev pub core_of : Record → Record

@@ -6,6 +6,7 @@ pub mod Inside
 pub mod Join
 pub mod Joining
 pub mod Keyed
+pub mod Pairs
 pub mod Puts
 pub mod Ranked
 pub mod Slots

@@ -1,8 +1,10 @@
 -- Records in the order in which they are kept, one after the other.
-use Rattle.std.specs.Prelude.{◌≡◌, Bool, true, false, List, [], ◌∷◌, Option, Some, None, Result, Ok, Err}
+use Rattle.std.specs.Prelude.{◌≡◌, ℕ, ⊤, Bool, true, false, List, [], ◌∷◌, Option, Some, None, is_some}
 use Rattle.std.specs.declared.cmp.Ordering.{Ordering}
 use Rattle.std.specs.declared.cmp.Ordering.TheVariants.{Less, Equal, Greater}
+use Rattle.ioam_dex.specs.Record.{Rec, record_at}
 use Rattle.ioam_pool.specs.Entry.{Entry}
+use Rattle.ioam_collect.specs.Keyed.{keyed_of}
 use Rattle.ioam_collect.specs.Unite.{pair_meet}
 use Rattle.ioam_collect.specs.declared.key.Key.{Key}
 
@@ -28,8 +30,17 @@ abbrev pub may_come_next : Option (Key × Entry) → Option (Key × Entry) → B
 may_come_next last None = false
 may_come_next last (Some next) = may_come last next
 
+-- the pair of the last record, by its octets; none where there are none
+abbrev pub last_in : List ℕ → Option (Key × Entry)
+last_in [] = None
+last_in (o ∷ os) = keyed_of (record_at (o ∷ os))
+
+-- the octets are a record with a key, or there are none
+abbrev pub IsLast : List ℕ → Type 0
+IsLast [] = ⊤
+IsLast (o ∷ os) = Rec (o ∷ os) (record_at (o ∷ os)) × (is_some (keyed_of (record_at (o ∷ os))) ≡ true)
+
 -- what was answered, and which record is the last then
-abbrev pub Ranks : {E : Type 0} → Option (Key × Entry) → Option (Key × Entry) → Result Bool E → Option (Key × Entry) → Type 0
-Ranks old next (Ok true) new = (may_come_next old next ≡ true) × (new ≡ next)
-Ranks old next (Ok false) new = (may_come_next old next ≡ false) × (new ≡ old)
-Ranks old next (Err _) new = new ≡ old
+abbrev pub Ranks : Option (Key × Entry) → Option (Key × Entry) → Bool → Option (Key × Entry) → Type 0
+Ranks old next true new = (may_come_next old next ≡ true) × (new ≡ next)
+Ranks old next false new = (may_come_next old next ≡ false) × (new ≡ old)

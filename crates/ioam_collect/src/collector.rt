@@ -3,7 +3,8 @@ ghost use Rattle.std.specs.Prelude.{◌≡◌, ◌≢◌, ◌↔◌, ◌^◌, �
 ghost use Rattle.std.specs.List.{AllByRecursion};
 ghost use Rattle.std.specs.Map.{keys_of};
 ghost use Rattle.std.specs.List.Sorted.{IsStrictlySortedBy};
-ghost use Rattle.ioam_dex.specs.Record.{Record, HasItsParts, record_of};
+ghost use Rattle.ioam_dex.specs.Record.{Record};
+ghost use Rattle.ioam_dex.specs.RecordRef.{content};
 ghost use Rattle.ioam_collect.specs.Keyed.{key_cmp, keyed, keyed_of, IsOfRecord};
 ghost use Rattle.ioam_collect.specs.Best.{groups_of};
 
@@ -12,10 +13,10 @@ use crate::grouping::Groups;
 use crate::growing::Added;
 use crate::joining::{Joined, join_stores};
 use crate::key::Key;
-use crate::keying::{keyed, write_core};
+use crate::keying::{core_of, keyed, write_core};
 use crate::store::Store;
 use ioam_base::memory::NoMemory;
-use ioam_dex::{Export, ExportRoom, MOST_RECORD, visit_octets};
+use ioam_dex::{ExportRoom, MOST_RECORD, RecordRef};
 use ioam_pool::Item;
 use std::alloc::Global;
 use std::marker::Model;
@@ -72,17 +73,14 @@ impl Collector {
         })
     }
 
-    /// Adds a record. The first of these holds that can: `Unkeyed`, `Repeat`, `Replaced`, `Full`, `Kept`.
-    /// The element is one of the type with at most 61 words, or empty where the type has neither a
-    /// defined word nor bit 22; the numbers are there exactly by the extension flags. Without memory the
+    /// Adds a record. The first of these holds that can: `Unkeyed`, `Repeat`, `Replaced`, `Full`, `Kept`. Without memory the
     /// collector is as before.
-    pub fn add(&mut self, export: &Export<'_>) -> Result<Added, NoMemory>
-        requires parts { HasItsParts (record_of export.now) }
-        ensures { AddsRecord self.old (record_of export.now) result self.new }
+    pub fn add(&mut self, export: &RecordRef<'_>) -> Result<Added, NoMemory>
+        ensures { AddsRecord self.old (content export.now) result self.new }
     {
-        let visit = visit_octets(export.visit);
         write_core(export, &mut self.room);
-        let Some((key, parts)) = keyed(export, self.room.octets(), visit.octets()) else {
+        let core = core_of(export, export.octets, self.room.octets());
+        let Some((key, parts)) = keyed(export, core, export.visit_octets()) else {
             self.count(Added::Unkeyed);
             return Ok(Added::Unkeyed);
         };
@@ -99,16 +97,15 @@ impl Collector {
     }
 
     /// Whether `add` would answer `Full` for a record. The collector stays as it is.
-    pub fn is_full_for(&mut self, export: &Export<'_>) -> bool
-        requires parts { HasItsParts (record_of export.now) }
-        ensures full { IsTrue result ↔ Answers self.old (keyed_of (record_of export.now)) Full }
+    pub fn is_full_for(&mut self, export: &RecordRef<'_>) -> bool
+        ensures full { IsTrue result ↔ Answers self.old (keyed_of (content export.now)) Full }
         // Straight from the records that it stands for: it would be one more than may be held.
-        ensures more { (xs : List Record) → Stands self.old xs → (IsTrue result ↔ IsOneMore self.old.limit xs (record_of export.now)) }
+        ensures more { (xs : List Record) → Stands self.old xs → (IsTrue result ↔ IsOneMore self.old.limit xs (content export.now)) }
         ensures same { self.new ≡ self.old }
     {
-        let visit = visit_octets(export.visit);
         write_core(export, &mut self.room);
-        let Some((key, parts)) = keyed(export, self.room.octets(), visit.octets()) else {
+        let core = core_of(export, export.octets, self.room.octets());
+        let Some((key, parts)) = keyed(export, core, export.visit_octets()) else {
             return false;
         };
         self.store.is_full_for(key, &parts)

@@ -1,82 +1,79 @@
 //! What of a record is kept: its key, and its item.
-ghost use Rattle.std.specs.Prelude.{◌≡◌, ◌+◌, ◌≤◌, length, true, IfSome, Some};
-ghost use Rattle.ioam_data.specs.Kind.{has};
-ghost use Rattle.ioam_dex.specs.Record.{HasItsParts, record_of};
-ghost use Rattle.ioam_dex.specs.Visit.{visit_octets};
-ghost use Rattle.ioam_collect.specs.Keyed.{hops_of, keyed_of, IsCoreOf, IsOfRecord};
+ghost use Rattle.std.specs.Prelude.{◌≡◌, ◌+◌, ◌≤◌, length, slice_index, true, IfSome};
+ghost use Rattle.ioam_data.specs.Elements.{IsFilled};
+ghost use Rattle.ioam_dex.specs.RecordRef.{content};
+ghost use Rattle.ioam_dex.specs.Visit.{has_visit, visit_octets};
+ghost use Rattle.ioam_collect.specs.Keyed.{IsCoreOf, IsOfRecord, hops_in, hops_of, keyed_of};
 
 use crate::key::Key;
 use ioam_base::octets::u32_at;
-use ioam_data::{bit, fields};
-use ioam_dex::{Export, ExportRoom, put_export};
+use ioam_data::{TraceType, bit, fields};
+use ioam_dex::{ExportRoom, RecordRef, element_in};
 use ioam_pool::Parts;
 
 // What Hop_Lim counts in, in front of a node id of 24 bits.
 const HOPS: u32 = 1 << 24;
 
-// The hop value of a record whose type has bit 0: its element begins with it.
-fn first_hops(export: &Export<'_>) -> u8
-    requires parts { HasItsParts (record_of export.now) }
-    requires first { has export.now.kind 0 ≡ true }
-    ensures { Some result ≡ hops_of (record_of export.now) }
+// The hop value of an element: that of bit 0 of its type, or of bit 8 where bit 0 isn't there.
+fn hops_in(kind: TraceType, element: &[u8]) -> Option<u8>
+    requires filled { IsFilled kind element.now }
+    ensures { result ≡ hops_in kind element.now }
 {
-    (u32_at(export.element, 0) / HOPS) as u8
-}
-
-/// The hop value of a record: that of bit 0 of its type, or of bit 8 where bit 0 isn't there.
-pub fn hop_value(export: &Export<'_>) -> Option<u8>
-    requires parts { HasItsParts (record_of export.now) }
-    ensures { result ≡ hops_of (record_of export.now) }
-{
-    if export.element.is_empty() {
+    if element.is_empty() {
         return None;
     }
-    let kind = export.trace_type();
     if kind.has(bit::HOP_NODE) {
-        return Some(first_hops(export));
+        return Some((u32_at(element, 0) / HOPS) as u8);
     }
-    let fields = fields(kind, kind.words(), export.element);
+    let fields = fields(kind, kind.words(), element);
     match fields.hop_node {
         Some((hops, _)) => Some(hops),
         None => fields.wide_hop_node.map(|(hops, _)| hops),
     }
 }
 
-/// Writes the version 1 record of a record into the room, and nothing else.
-pub fn write_core(export: &Export<'_>, room: &mut ExportRoom)
-    requires parts { HasItsParts (record_of export.now) }
-    requires room { 274 ≤ room.old.spare + length room.old.octets }
-    ensures core { IsCoreOf (record_of export.now) room.new.octets }
-    ensures room { room.new.spare + length room.new.octets ≡ room.old.spare + length room.old.octets }
+/// The hop value of a record.
+pub(crate) fn hops_of(export: &RecordRef<'_>) -> Option<u8>
+    ensures { result ≡ hops_of (content export.now) }
 {
-    let core = Export {
-        namespace: export.namespace,
-        flags: export.flags,
-        ext: export.ext,
-        kind: export.kind,
-        visit: None,
-        flow: export.flow,
-        seq: export.seq,
-        element: export.element,
-    };
-    room.clear();
-    put_export(&core, room);
+    let (kind, element) = element_in(export.octets);
+    hops_in(kind, element)
 }
 
-/// The key of a record, and the parts of its item, of which the octets are given. None without a Flow
-/// ID, a Sequence Number or a hop value.
+/// Writes the version 1 record of a record that tells a visit into the room, and nothing else. Any other is that record itself.
+pub(crate) fn write_core(export: &RecordRef<'_>, room: &mut ExportRoom)
+    requires room { 274 ≤ room.old.spare + length room.old.octets }
+    ensures core { has_visit (slice_index export.now.octets.now 0) ≡ true → IsCoreOf (content export.now) room.new.octets }
+    ensures room { room.new.spare + length room.new.octets ≡ room.old.spare + length room.old.octets }
+{
+    if export.has_visit() {
+        room.clear();
+        export.put_plain(room);
+    }
+}
+
+/// The version 1 record of a record, of which the octets are given and, if it tells a visit, what `write_core` wrote.
+pub(crate) fn core_of<'a>(export: &RecordRef<'_>, octets: &'a [u8], written: &'a [u8]) -> &'a [u8]
+    requires octets { octets.now ≡ export.now.octets.now }
+    requires written { has_visit (slice_index export.now.octets.now 0) ≡ true → IsCoreOf (content export.now) written.now }
+    ensures { IsCoreOf (content export.now) result.now }
+{
+    if export.has_visit() { written } else { octets }
+}
+
+/// The key of a record, and the parts of its item, of which the octets are given. None without a Flow ID, a Sequence Number or
+/// a hop value.
 pub(crate) fn keyed<'a>(
-    export: &Export<'_>,
+    export: &RecordRef<'_>,
     core: &'a [u8],
     visit: &'a [u8],
 ) -> Option<(Key, Parts<'a>)>
-    requires parts { HasItsParts (record_of export.now) }
-    requires core { IsCoreOf (record_of export.now) core.now }
-    requires visit { visit.now ≡ visit_octets (record_of export.now).visit }
-    ensures keyed { result ≡ keyed_of (record_of export.now) }
+    requires core { IsCoreOf (content export.now) core.now }
+    requires visit { visit.now ≡ visit_octets (content export.now).visit }
+    ensures keyed { result ≡ keyed_of (content export.now) }
     ensures of_record { IfSome result (λ found. IsOfRecord found.1) }
 {
     let key = Key::of(export)?;
-    let hops = hop_value(export)?;
+    let hops = hops_of(export)?;
     Some((key, Parts::new(hops, core, visit)))
 }

@@ -11,6 +11,7 @@ mod key;
 mod key_map;
 mod keying;
 mod laws;
+mod order;
 mod ranking;
 mod slots;
 mod store;
@@ -21,9 +22,9 @@ pub use grouping::{Group, Groups};
 pub use growing::Added;
 pub use joining::Joined;
 pub use key::Key;
-pub use keying::{hop_value, write_core};
 pub use laws::{
     any_tree_joins, groups_join, groups_tell_what_is_kept, joining_is_a_union, neighbours_tell,
     side_by_side,
 };
+pub use order::meet;
 pub use ranking::Ranking;
