@@ -1,14 +1,12 @@
 -- Records that are taken off a part, one after the other.
-use Rattle.std.proofs.Common.{◌≡◌, ℕ, ◌+◌, ◌*◌, ◌<◌, ◌≤◌, Bool, true, false, cond, List, [], ◌∷◌, ◌++◌, length, length-append, All, refl, sym, ap, ap₂, ◌∙◌, subst, arith, ◌⊎◌, inl, inr, Option, None, Some}
-use Rattle.std.specs.Prelude.{min, is_some}
+use Rattle.std.proofs.Common.{◌≡◌, ℕ, ◌+◌, ◌*◌, ◌<◌, ◌≤◌, Bool, true, false, List, [], ◌∷◌, ◌++◌, length, length-append, All, refl, sym, ap, ap₂, ◌∙◌, subst, arith, ◌⊎◌, inl, inr, Option, None, Some}
+use Rattle.std.specs.Prelude.{min}
 use Rattle.std.proofs.lemmas.Bool.Decides.{nat_tests}
 use Rattle.std.proofs.lemmas.List.{nil_from_length}
 use Rattle.std.proofs.lemmas.List.Elements.{All-head, All-tail, All-push}
 use Rattle.ioam_dex.specs.declared.export.ExportFault.{ExportFault}
 use Rattle.ioam_dex.specs.Faults.{Fault, IsCut}
-use Rattle.ioam_dex.specs.Numbers.{has_flow, has_seq, four_where}
-use Rattle.ioam_dex.specs.Record.{Record, HasItsParts, IsRecord, record_octets}
-use Rattle.ioam_dex.specs.Visit.{has_visit, twelve_where, version_of}
+use Rattle.ioam_dex.specs.Record.{Record, IsRecord, record_octets}
 use Rattle.ioam_dex.specs.Reader as dex
 use Rattle.ioam_dex.specs.Reading.{Reading}
 use Rattle.ioam_dex.specs.Reads.{records_octets}
@@ -48,23 +46,6 @@ octets_few (x ∷ xs) all =
     let few = record_size-small x parts in
     let both = length-append (record_octets x) (records_octets xs) in
     omega arith
-
-four_by : (f : Option ℕ) (there : Bool) (n : ℕ) → is_some f ≡ there → n ≡ cond (is_some f) 4 0 → n ≡ four_where there
-four_by f there n same is = is ∙ ap (λ b. cond b 4 0) same
-
-twelve_by : (visit : Option (ℕ × ℕ)) (n : ℕ) → n ≡ cond (is_some visit) 12 0 → n ≡ twelve_where (has_visit (version_of visit))
-twelve_by None n is = is
-twelve_by (Some v) n is = is
-
--- the octets of a record, by its parts
-pub size_is : (x : Record) → HasItsParts x → (a b c : ℕ) → a ≡ cond (is_some x.visit) 12 0 → b ≡ cond (is_some x.flow) 4 0 → c ≡ cond (is_some x.seq) 4 0
-    → 10 + a + b + c + length x.element ≡ length (record_octets x)
-size_is x parts a b c visit flow seq =
-    let size = record_octets-length x parts in
-    let twelve = twelve_by x.visit a visit in
-    let first = four_by x.flow (has_flow x.ext) b parts.flow flow in
-    let second = four_by x.seq (has_seq x.ext) c parts.seq seq in
-    omega (arith, size, twelve, first, second)
 
 below : (n most : ℕ) → n ≤ most → min n most ≡ n
 below n most fits = grind (arith, nat_tests)

@@ -1,8 +1,9 @@
 //! Records that are taken off a part, one after the other.
-ghost use Rattle.std.specs.Prelude.{◌≡◌, ◌∷◌, ◌++◌, ◌+◌, ◌<◌, ◌^◌, [], ℕ, List, None, IfOk, OnOk, length, if◌then◌else◌};
+ghost use Rattle.std.specs.Prelude.{◌≡◌, ◌∷◌, ◌++◌, ◌+◌, ◌<◌, ◌^◌, [], ℕ, List, None, IfOk, OnOk, length};
 ghost use Rattle.std.specs.Bool.{OnTrue};
 ghost use Rattle.ioam_dex.specs.Reader.{held};
-ghost use Rattle.ioam_dex.specs.Record.{HasItsParts, Record, record_of, record_octets};
+ghost use Rattle.ioam_dex.specs.Record.{Record, record_octets};
+ghost use Rattle.ioam_dex.specs.RecordRef.{content};
 ghost use Rattle.ioam_part.specs.Part.{AreInOrder};
 ghost use Rattle.ioam_part.specs.Reading.{Goes, Holds, Stops, Took, Turns};
 
@@ -10,26 +11,7 @@ use crate::fault::PartFault;
 use crate::head::HEAD_SIZE;
 use crate::progress::Progress;
 use ioam_base::memory::NoMemory;
-use ioam_dex::fields::{VISIT, VISIT_SIZE};
-use ioam_dex::{Export, ExportReader, Step};
-
-// So many octets where they are there.
-fn size_where(there: bool, size: u64) -> u64
-    ensures { result ≡ (if there then size else 0) }
-{
-    if there { size } else { 0 }
-}
-
-// The octets of a record.
-fn size_of(export: &Export<'_>) -> u64
-    requires parts { HasItsParts (record_of export.now) }
-    ensures { result ≡ length (record_octets (record_of export.now)) }
-{
-    let visit = size_where(export.visit.is_some(), VISIT_SIZE as u64);
-    let flow = size_where(export.flow.is_some(), 4);
-    let seq = size_where(export.seq.is_some(), 4);
-    VISIT as u64 + visit + flow + seq + export.element.len() as u64
-}
+use ioam_dex::{ExportReader, RecordRef, Shown};
 
 /// The place in the part of what stands so far behind its head.
 pub(crate) fn place_of(end: u64) -> u64
@@ -38,12 +20,11 @@ pub(crate) fn place_of(end: u64) -> u64
     end.saturating_add(HEAD_SIZE as u64)
 }
 
-// Lets the collector hold a record, where it isn't full.
-fn hold(progress: &mut Progress, export: &Export<'_>) -> Result<(), NoMemory>
-    requires parts { HasItsParts (record_of export.now) }
-    ensures holds { OnOk result ((limit : ℕ) (xs : List Record) → AreInOrder (xs ++ record_of export.now ∷ [])
+// Lets the collector hold a record, if it isn't full.
+fn hold(progress: &mut Progress, export: &RecordRef<'_>) -> Result<(), NoMemory>
+    ensures holds { OnOk result ((limit : ℕ) (xs : List Record) → AreInOrder (xs ++ content export.now ∷ [])
         → Holds limit progress.old.full progress.old.collector xs
-        → Holds limit progress.new.full progress.new.collector (xs ++ record_of export.now ∷ [])) }
+        → Holds limit progress.new.full progress.new.collector (xs ++ content export.now ∷ [])) }
     ensures others { progress.new ≡ record progress.old { collector = progress.new.collector; full = progress.new.full } }
 {
     if progress.full {
@@ -54,12 +35,18 @@ fn hold(progress: &mut Progress, export: &Export<'_>) -> Result<(), NoMemory>
     Ok(())
 }
 
-// Takes a record. False where it may not stand behind the last one, which is the fault then.
-fn take(progress: &mut Progress, export: &Export<'_>) -> Result<bool, NoMemory>
-    requires parts { HasItsParts (record_of export.now) }
-    ensures { IfOk result (λ fits. Goes progress.old (record_of export.now) fits progress.new) }
+// The octets of a record.
+fn size_of(export: &RecordRef<'_>) -> u64
+    ensures { result ≡ length (record_octets (content export.now)) }
 {
-    if !progress.order.push(export)? {
+    export.octets.len() as u64
+}
+
+// Takes a record. False if it may not stand after the last one, which is the fault then.
+fn take(progress: &mut Progress, export: &RecordRef<'_>) -> Result<bool, NoMemory>
+    ensures { IfOk result (λ fits. Goes progress.old (content export.now) fits progress.new) }
+{
+    if !progress.order.push(export) {
         progress.fault = Some((place_of(progress.end), PartFault::Order));
         return Ok(false);
     }
@@ -87,10 +74,10 @@ fn take_next(
         progress.fault = Some((place_of(progress.end), PartFault::Rest));
         return Ok(false);
     }
-    match reader.next() {
-        Step::Export(export) => take(progress, &export),
-        Step::More => Ok(false),
-        Step::Bad { at, fault } => {
+    match reader.show() {
+        Shown::Record(octets) => take(progress, &RecordRef::new(octets)),
+        Shown::More => Ok(false),
+        Shown::Bad { at, fault } => {
             progress.fault = Some((place_of(at), PartFault::Record { fault }));
             Ok(false)
         }
