@@ -4,18 +4,19 @@ use Rattle.std.specs.Prelude.{⊤, IsTrue, is_some, unwrap_or}
 use Rattle.std.specs.declared.cmp.Ordering.{Ordering}
 use Rattle.std.specs.declared.cmp.Ordering.TheVariants.{Less, Equal, Greater}
 use Rattle.std.proofs.lemmas.List.Elements.{All-head, All-tail}
-use Rattle.ioam_dex.specs.Record.{Record, IsRecord, record_of}
+use Rattle.ioam_dex.specs.Record.{Record, IsRecord}
+use Rattle.ioam_dex.specs.RecordRef.{content}
 use Rattle.ioam_dex.specs.Reads.{records_octets}
 use Rattle.ioam_dex.specs.Visit.{visit_octets}
-use Rattle.ioam_dex.specs.declared.export.Export.{Export}
+use Rattle.ioam_dex.specs.declared.record_ref.RecordRef.{RecordRef}
 use Rattle.ioam_collect.specs.Entry.{Entry, has_some}
 use Rattle.ioam_collect.specs.Best.{tells}
 use Rattle.ioam_collect.specs.Keyed.{keyed, keyed_by, keyed_of, hops_of, item_of}
+use Rattle.ioam_collect.specs.Pairs.{pair_of}
 use Rattle.ioam_collect.specs.Unite.{pair_meet, tied, one_by, united}
 use Rattle.ioam_collect.specs.declared.key.Key.{Key}
 use Rattle.ioam_part.specs.Part.{HasKey}
 use Rattle.ioam_part.proofs.PartLaws.{item_parts, keyed-cons}
-use Rattle.ioam_part_merge.specs.Pairs.{pair_of}
 use Rattle.ioam_part_merge.specs.Walk.{ShowsNext, IsSide, turn_by, turn_of}
 use Rattle.ioam_part_merge.specs.declared.side.Side.{Side}
 use Rattle.ioam_part_merge.specs.declared.turn.Turn.{Turn}
@@ -81,7 +82,7 @@ TurnsSo turn.WithoutFirst xs ys = LeavesFirst xs ys
 TurnsSo turn.WithoutSecond xs ys = LeavesSecond xs ys
 
 -- what is taken or left out is there
-abbrev pub Shows : Turn → Option Export → Option Export → Type 0
+abbrev pub Shows : Turn → Option RecordRef → Option RecordRef → Type 0
 Shows turn.Done first second = ⊤
 Shows turn.First first second = IsTrue (is_some first)
 Shows turn.Second first second = IsTrue (is_some second)
@@ -92,22 +93,22 @@ Shows turn.WithoutSecond first second = IsTrue (is_some second)
 -- ---- what a side shows
 
 -- the record that is next, and those behind it
-pub record Ahead (e : Export) (behind : List ℕ) (xs : List Record) : Type 0 where
+pub record Ahead (e : RecordRef) (behind : List ℕ) (xs : List Record) : Type 0 where
   pub rest : List Record
   pub pair : Key × Entry
-  pub are : xs ≡ record_of e ∷ rest
-  pub says : keyed_of (record_of e) ≡ Some pair
+  pub are : xs ≡ content e ∷ rest
+  pub says : keyed_of (content e) ≡ Some pair
   pub pairs : keyed xs ≡ pair ∷ keyed rest
-  pub sayable : IsRecord (record_of e)
+  pub sayable : IsRecord (content e)
   pub each : All IsRecord rest
   pub keys : All HasKey rest
   pub behind_is : behind ≡ records_octets rest
 
-ahead_by : (e : Export) (behind : List ℕ) (xs : List Record) → All IsRecord xs → All HasKey xs → ShowsNext (Some e) behind xs → Ahead e behind xs
+ahead_by : (e : RecordRef) (behind : List ℕ) (xs : List Record) → All IsRecord xs → All HasKey xs → ShowsNext (Some e) behind xs → Ahead e behind xs
 ahead_by e behind [] each keys shows = absurd shows
 ahead_by e behind (x ∷ xs) each keys shows =
     let key = All-head HasKey x xs keys in
-    let same : record_of e ≡ x = shows.0 in
+    let same : content e ≡ x = shows.0 in
     record {
       rest = xs;
       pair = key.0;
@@ -120,28 +121,28 @@ ahead_by e behind (x ∷ xs) each keys shows =
       behind_is = shows.1;
     }
 
-pub ahead : (side : Side) (e : Export) (xs : List Record) → side.next ≡ Some e → IsSide side xs → Ahead e side.behind.now xs
-ahead side e xs is s = ahead_by e side.behind.now xs s.each s.keys (subst (λ o. ShowsNext o side.behind.now xs) is s.shows)
+pub ahead : (side : Side) (e : RecordRef) (xs : List Record) → side.next ≡ Some e → IsSide side xs → Ahead e side.behind xs
+ahead side e xs is s = ahead_by e side.behind xs s.each s.keys (subst (λ o. ShowsNext o side.behind xs) is s.shows)
 
 none_by : (behind : List ℕ) (xs : List Record) → ShowsNext None behind xs → xs ≡ []
 none_by behind [] shows = refl
 none_by behind (x ∷ xs) shows = absurd shows
 
 pub at_end : (side : Side) (xs : List Record) → side.next ≡ None → IsSide side xs → xs ≡ []
-at_end side xs is s = none_by side.behind.now xs (subst (λ o. ShowsNext o side.behind.now xs) is s.shows)
+at_end side xs is s = none_by side.behind xs (subst (λ o. ShowsNext o side.behind xs) is s.shows)
 
 -- ---- the turns where one has ended
 
 pub turns_done : (first second : Side) (xs ys : List Record) → first.next ≡ None → second.next ≡ None → IsSide first xs → IsSide second ys → TurnsSo turn.Done xs ys
 turns_done first second xs ys none none' one two = (at_end first xs none one, at_end second ys none' two)
 
-pub turns_second : (first second : Side) (e : Export) (xs ys : List Record) → first.next ≡ None → second.next ≡ Some e → IsSide first xs → IsSide second ys
+pub turns_second : (first second : Side) (e : RecordRef) (xs ys : List Record) → first.next ≡ None → second.next ≡ Some e → IsSide first xs → IsSide second ys
     → TurnsSo turn.Second xs ys
 turns_second first second e xs ys none is one two =
     let a = ahead second e ys is two in
     let empty : keyed xs ≡ [] = ap keyed (at_end first xs none one) in
     record {
-      one = record_of e;
+      one = content e;
       rest = a.rest;
       pair = a.pair;
       are = a.are;
@@ -149,13 +150,13 @@ turns_second first second e xs ys none is one two =
       finds = ap₂ united empty a.pairs ∙ ap (λ (ps : List (Key × Entry)). a.pair ∷ united ps (keyed a.rest)) (sym empty);
     }
 
-pub turns_first : (first second : Side) (e : Export) (xs ys : List Record) → first.next ≡ Some e → second.next ≡ None → IsSide first xs → IsSide second ys
+pub turns_first : (first second : Side) (e : RecordRef) (xs ys : List Record) → first.next ≡ Some e → second.next ≡ None → IsSide first xs → IsSide second ys
     → TurnsSo turn.First xs ys
 turns_first first second e xs ys is none one two =
     let a = ahead first e xs is one in
     let empty : keyed ys ≡ [] = ap keyed (at_end second ys none two) in
     record {
-      one = record_of e;
+      one = content e;
       rest = a.rest;
       pair = a.pair;
       are = a.are;
@@ -179,7 +180,7 @@ goes_by Equal s t x y xs ys meets p q =
     ∙ ap₂ (λ (a b : Bool). tied a b x (united xs (y ∷ ys)) (united xs ys) (united (x ∷ xs) ys)) p q
 goes_by Greater s t x y xs ys meets p q = ap (λ o. one_by o x y (united xs (y ∷ ys)) (united xs ys) (united (x ∷ xs) ys)) meets
 
-module _ (e f : Export) (behind others : List ℕ) (xs ys : List Record) (a : Ahead e behind xs) (b : Ahead f others ys) where
+module _ (e f : RecordRef) (behind others : List ℕ) (xs ys : List Record) (a : Ahead e behind xs) (b : Ahead f others ys) where
   goes : (o : Ordering) (s t : Bool) → pair_meet a.pair b.pair ≡ o → tells a.pair ≡ s → tells b.pair ≡ t → united (keyed xs) (keyed ys)
       ≡ one_with o s t a.pair b.pair (united (keyed a.rest) (keyed ys)) (united (keyed a.rest) (keyed b.rest)) (united (keyed xs) (keyed b.rest))
   goes o s t meets p q =
@@ -191,8 +192,8 @@ module _ (e f : Export) (behind others : List ℕ) (xs ys : List Record) (a : Ah
       → tied s t a.pair (united (keyed a.rest) (keyed ys)) (united (keyed a.rest) (keyed b.rest)) (united (keyed xs) (keyed b.rest)) ≡ a.pair ∷ united (keyed a.rest) (keyed b.rest)
       → TakesBoth xs ys
   both_go s t meets p q same = record {
-    one = record_of e;
-    other = record_of f;
+    one = content e;
+    other = content f;
     rest = a.rest;
     others = b.rest;
     pair = a.pair;
@@ -203,12 +204,12 @@ module _ (e f : Export) (behind others : List ℕ) (xs ys : List Record) (a : Ah
   }
 
   pub turns_two : (o : Ordering) (s t : Bool) → pair_meet a.pair b.pair ≡ o → tells a.pair ≡ s → tells b.pair ≡ t → TurnsSo (turn_by o s t) xs ys
-  turns_two Less s t meets p q = record { one = record_of e; rest = a.rest; pair = a.pair; are = a.are; says = a.says; finds = goes Less s t meets p q }
-  turns_two Greater s t meets p q = record { one = record_of f; rest = b.rest; pair = b.pair; are = b.are; says = b.says; finds = goes Greater s t meets p q }
+  turns_two Less s t meets p q = record { one = content e; rest = a.rest; pair = a.pair; are = a.are; says = a.says; finds = goes Less s t meets p q }
+  turns_two Greater s t meets p q = record { one = content f; rest = b.rest; pair = b.pair; are = b.are; says = b.says; finds = goes Greater s t meets p q }
   turns_two Equal true true meets p q = both_go true true meets p q refl
   turns_two Equal false false meets p q = both_go false false meets p q refl
-  turns_two Equal false true meets p q = record { one = record_of e; rest = a.rest; are = a.are; goes = goes Equal false true meets p q }
-  turns_two Equal true false meets p q = record { one = record_of f; rest = b.rest; are = b.are; goes = goes Equal true false meets p q }
+  turns_two Equal false true meets p q = record { one = content e; rest = a.rest; are = a.are; goes = goes Equal false true meets p q }
+  turns_two Equal true false meets p q = record { one = content f; rest = b.rest; are = b.are; goes = goes Equal true false meets p q }
 
 -- ---- what is known of a record with a key
 
@@ -239,28 +240,28 @@ pub pair_is : (x : Record) (p : Key × Entry) → keyed_of x ≡ Some p → pair
 pair_is x p is = pair_by x x.flow x.seq (hops_of x) p is
 
 -- the turn of two records, by what they are
-pub turns_records : (first second : Side) (e f : Export) (xs ys : List Record) (o : Ordering) → first.next ≡ Some e → second.next ≡ Some f
-    → o ≡ pair_meet (pair_of (record_of e)) (pair_of (record_of f)) → IsSide first xs → IsSide second ys
-    → TurnsSo (turn_by o (is_some e.visit) (is_some f.visit)) xs ys
+pub turns_records : (first second : Side) (e f : RecordRef) (xs ys : List Record) (o : Ordering) → first.next ≡ Some e → second.next ≡ Some f
+    → o ≡ pair_meet (pair_of (content e)) (pair_of (content f)) → IsSide first xs → IsSide second ys
+    → TurnsSo (turn_by o (is_some (content e).visit) (is_some (content f).visit)) xs ys
 turns_records first second e f xs ys o is_e is_f meets one two =
     let a = ahead first e xs is_e one in
     let b = ahead second f ys is_f two in
-    turns_two e f first.behind.now second.behind.now xs ys a b o (is_some e.visit) (is_some f.visit)
-    (sym (meets ∙ ap₂ pair_meet (pair_is (record_of e) a.pair a.says) (pair_is (record_of f) b.pair b.says)))
-    (tells_visit (record_of e) a.pair a.says) (tells_visit (record_of f) b.pair b.says)
+    turns_two e f first.behind second.behind xs ys a b o (is_some (content e).visit) (is_some (content f).visit)
+    (sym (meets ∙ ap₂ pair_meet (pair_is (content e) a.pair a.says) (pair_is (content f) b.pair b.says)))
+    (tells_visit (content e) a.pair a.says) (tells_visit (content f) b.pair b.says)
 
-turns_next : (a b : Option Export) (first second : Side) (xs ys : List Record) → first.next ≡ a → second.next ≡ b → IsSide first xs → IsSide second ys → TurnsSo (turn_of a b) xs ys
+turns_next : (a b : Option RecordRef) (first second : Side) (xs ys : List Record) → first.next ≡ a → second.next ≡ b → IsSide first xs → IsSide second ys → TurnsSo (turn_of a b) xs ys
 turns_next None None first second xs ys is_a is_b one two = turns_done first second xs ys is_a is_b one two
 turns_next None (Some f) first second xs ys is_a is_b one two = turns_second first second f xs ys is_a is_b one two
 turns_next (Some e) None first second xs ys is_a is_b one two = turns_first first second e xs ys is_a is_b one two
 turns_next (Some e) (Some f) first second xs ys is_a is_b one two =
-    turns_records first second e f xs ys (pair_meet (pair_of (record_of e)) (pair_of (record_of f))) is_a is_b refl one two
+    turns_records first second e f xs ys (pair_meet (pair_of (content e)) (pair_of (content f))) is_a is_b refl one two
 
 -- the turn of two sides
 pub turns_are : (first second : Side) (xs ys : List Record) (t : Turn) → t ≡ turn_of first.next second.next → IsSide first xs → IsSide second ys → TurnsSo t xs ys
 turns_are first second xs ys t is one two = subst (λ u. TurnsSo u xs ys) (sym is) (turns_next first.next second.next first second xs ys refl refl one two)
 
-shows_two : (e f : Export) (o : Ordering) (s t : Bool) → Shows (turn_by o s t) (Some e) (Some f)
+shows_two : (e f : RecordRef) (o : Ordering) (s t : Bool) → Shows (turn_by o s t) (Some e) (Some f)
 shows_two e f Less s t = refl
 shows_two e f Equal true true = (refl, refl)
 shows_two e f Equal true false = refl
@@ -268,11 +269,11 @@ shows_two e f Equal false true = refl
 shows_two e f Equal false false = (refl, refl)
 shows_two e f Greater s t = refl
 
-shows_next : (a b : Option Export) → Shows (turn_of a b) a b
+shows_next : (a b : Option RecordRef) → Shows (turn_of a b) a b
 shows_next None None = tt
 shows_next None (Some f) = refl
 shows_next (Some e) None = refl
-shows_next (Some e) (Some f) = shows_two e f (pair_meet (pair_of (record_of e)) (pair_of (record_of f))) (is_some e.visit) (is_some f.visit)
+shows_next (Some e) (Some f) = shows_two e f (pair_meet (pair_of (content e)) (pair_of (content f))) (is_some (content e).visit) (is_some (content f).visit)
 
 -- what is taken or left out is there
 pub shows_are : (first second : Side) (t : Turn) → t ≡ turn_of first.next second.next → Shows t first.next second.next

@@ -1,10 +1,12 @@
 -- Two parts that are walked side by side.
 use Rattle.std.proofs.Common.{◌≡◌, ℕ, ◌+◌, ◌<◌, ◌≤◌, List, [], ◌∷◌, ◌++◌, length, length-append, drop, All, Option, None, Some, refl, sym, ap, ap₂, ◌∙◌, subst, arith}
 use Rattle.std.proofs.lemmas.List.Elements.{All-append, All-head, All-tail}
-use Rattle.std.specs.Prelude.{IfSome, IsTrue, is_some}
-use Rattle.ioam_dex.specs.Record.{Record, IsRecord, Rec, record_of, record_octets}
+use Rattle.std.specs.Prelude.{IsTrue, is_some}
+use Rattle.ioam_dex.specs.Record.{Record, IsRecord, record_octets}
+use Rattle.ioam_dex.specs.RecordRef.{AreRecords, content}
 use Rattle.ioam_dex.specs.Reads.{records_octets}
-use Rattle.ioam_dex.specs.declared.export.Export.{Export}
+use Rattle.ioam_dex.specs.declared.record_ref.RecordRef.{RecordRef}
+use Rattle.ioam_dex.proofs.RefLaws.{content-rec}
 use Rattle.ioam_collect.specs.Entry.{Entry}
 use Rattle.ioam_collect.specs.Best.{groups_of, kept_of}
 use Rattle.ioam_collect.specs.Collected.{count_kept}
@@ -18,128 +20,129 @@ use Rattle.ioam_collect.proofs.Members.{Has}
 use Rattle.ioam_collect.proofs.UniteLaws.{kept_apart, united_kept}
 use Rattle.ioam_part.specs.Part.{HasKey, IsPart, PartOf, head_octets}
 use Rattle.ioam_part.proofs.RecordLaws.{item_is, records_for, said}
-use Rattle.ioam_part_merge.specs.Walk.{ShowsNext, Says, IsSide, Walking, Comes, NextIs, left_of, pairs_octets}
+use Rattle.ioam_part_merge.specs.Walk.{ShowsNext, IsSide, Walking, Comes, NextIs, left_of, pairs_octets, size_of, taken_of}
 use Rattle.ioam_part_merge.specs.declared.side.Side.{Side}
+use Rattle.ioam_part_merge.specs.declared.step.Step.{Step}
+use Rattle.ioam_part_merge.proofs.SideLaws.{some_octets}
 use Rattle.ioam_part_merge.proofs.TurnLaws.{TakesFirst, TakesSecond, TakesBoth, LeavesFirst, LeavesSecond}
 
 -- ---- a side goes on
 
 -- of a side whose record that is next was taken off
-record Follows (side : Side) (x : Record) (rest : List Record) : Type 0 where
-  says : side.octets.now ≡ record_octets x
+record Follows (side : Side) (e : RecordRef) (x : Record) (rest : List Record) : Type 0 where
+  says : e.octets.now ≡ record_octets x
   sayable : IsRecord x
   each : All IsRecord rest
   keys : All HasKey rest
-  behind : side.behind.now ≡ records_octets rest
+  behind : side.behind ≡ records_octets rest
 
-follows_by : (next : Option Export) (octets behind : List ℕ) (x : Record) (rest : List Record) → IfSome next (λ e. Rec octets (record_of e))
-    → ShowsNext next behind (x ∷ rest) → (octets ≡ record_octets x) × (behind ≡ records_octets rest)
-follows_by None octets behind x rest says shows = absurd shows
-follows_by (Some e) octets behind x rest says shows = (says.is ∙ ap record_octets shows.0, shows.1)
-
-follows : (side : Side) (xs : List Record) (x : Record) (rest : List Record) → xs ≡ x ∷ rest → IsSide side xs → Follows side x rest
-follows side xs x rest are s =
+follows : (side : Side) (e : RecordRef) (xs : List Record) (x : Record) (rest : List Record) → side.next ≡ Some e → xs ≡ x ∷ rest → IsSide side xs → Follows side e x rest
+follows side e xs x rest is are s =
     let t : IsSide side (x ∷ rest) = subst (IsSide side) are s in
-    let parts = follows_by side.next side.octets.now side.behind.now x rest t.says t.shows in
+    let shows : ShowsNext (Some e) side.behind (x ∷ rest) = subst (λ o. ShowsNext o side.behind (x ∷ rest)) is t.shows in
     record {
-      says = parts.0;
+      says = (content-rec e).is ∙ ap record_octets shows.0;
       sayable = All-head IsRecord x rest t.each;
       each = All-tail IsRecord x rest t.each;
       keys = All-tail HasKey x rest t.keys;
-      behind = parts.1;
+      behind = shows.1;
     }
+
+-- the record that is next, if it is there
+there_by : (next : Option RecordRef) → IsTrue (is_some next) → (e : RecordRef) × (next ≡ Some e)
+there_by None some = absurd (cc some)
+there_by (Some e) some = (e, refl)
+
+pub there : (side : Side) → IsTrue (is_some side.next) → (e : RecordRef) × (side.next ≡ Some e)
+there side some = there_by side.next some
 
 -- what making a side of octets gives
 abbrev pub Makes : List ℕ → Side → Type 0
 Makes octets side = (xs : List Record) → All IsRecord xs → All HasKey xs → octets ≡ records_octets xs → IsSide side xs
 
-some_by : (next : Option Export) (octets : List ℕ) → IfSome next (λ e. Rec octets (record_of e)) → IsTrue (is_some next) → 1 ≤ length octets
-some_by None octets says some = absurd (cc some)
-some_by (Some e) octets says some = let size = ap length says.is in omega (arith, size)
-
--- a record that is next has octets
-pub some_octets : (side : Side) → Says side → IsTrue (is_some side.next) → 1 ≤ length side.octets.now
-some_octets side says some = some_by side.next side.octets.now says some
+-- the step that takes a record which is there
+pub taken_is : (next : Option RecordRef) (e : RecordRef) (step : Step) → step ≡ taken_of next → next ≡ Some e → step ≡ taken_of (Some e)
+taken_is next e step is some = is ∙ ap taken_of some
 
 -- ---- the walk goes on
 
-module _ (walk new : Walking) (ps : List (Key × Entry)) (comes : Comes walk ps) where
-  pub step_first : TakesFirst comes.firsts comes.seconds → Makes walk.first.behind.now new.first → new.second ≡ walk.second → NextIs ps walk.first.octets.now new
-  step_first takes makes same =
-      let f = follows walk.first comes.firsts takes.one takes.rest takes.are comes.first in
+module _ (walk new : Walking) (ps : List (Key × Entry)) (comes : Comes walk ps) (e : RecordRef) where
+  pub step_first : walk.first.next ≡ Some e → TakesFirst comes.firsts comes.seconds → Makes walk.first.behind new.first → new.second ≡ walk.second → NextIs ps e.octets.now new
+  step_first next takes makes same =
+      let t = follows walk.first e comes.firsts takes.one takes.rest next takes.are comes.first in
       record {
         pair = takes.pair;
         rest = united (keyed takes.rest) (keyed comes.seconds);
         are = comes.are ∙ takes.finds;
-        is = f.says ∙ sym (item_is takes.one takes.pair f.sayable takes.says);
+        is = t.says ∙ sym (item_is takes.one takes.pair t.sayable takes.says);
         comes = record {
           firsts = takes.rest;
           seconds = comes.seconds;
-          first = makes takes.rest f.each f.keys f.behind;
+          first = makes takes.rest t.each t.keys t.behind;
           second = subst (λ s. IsSide s comes.seconds) (sym same) comes.second;
           are = refl;
         };
       }
 
-  pub step_second : TakesSecond comes.firsts comes.seconds → Makes walk.second.behind.now new.second → new.first ≡ walk.first → NextIs ps walk.second.octets.now new
-  step_second takes makes same =
-      let f = follows walk.second comes.seconds takes.one takes.rest takes.are comes.second in
+  pub step_second : walk.second.next ≡ Some e → TakesSecond comes.firsts comes.seconds → Makes walk.second.behind new.second → new.first ≡ walk.first → NextIs ps e.octets.now new
+  step_second next takes makes same =
+      let t = follows walk.second e comes.seconds takes.one takes.rest next takes.are comes.second in
       record {
         pair = takes.pair;
         rest = united (keyed comes.firsts) (keyed takes.rest);
         are = comes.are ∙ takes.finds;
-        is = f.says ∙ sym (item_is takes.one takes.pair f.sayable takes.says);
+        is = t.says ∙ sym (item_is takes.one takes.pair t.sayable takes.says);
         comes = record {
           firsts = comes.firsts;
           seconds = takes.rest;
           first = subst (λ s. IsSide s comes.firsts) (sym same) comes.first;
-          second = makes takes.rest f.each f.keys f.behind;
+          second = makes takes.rest t.each t.keys t.behind;
           are = refl;
         };
       }
 
-  pub step_both : TakesBoth comes.firsts comes.seconds → Makes walk.first.behind.now new.first → Makes walk.second.behind.now new.second → NextIs ps walk.first.octets.now new
-  step_both takes makes makes' =
-      let f = follows walk.first comes.firsts takes.one takes.rest takes.are comes.first in
-      let g = follows walk.second comes.seconds takes.other takes.others takes.are_others comes.second in
+  pub step_both : (f : RecordRef) → walk.first.next ≡ Some e → walk.second.next ≡ Some f → TakesBoth comes.firsts comes.seconds → Makes walk.first.behind new.first → Makes walk.second.behind new.second → NextIs ps e.octets.now new
+  step_both f next next' takes makes makes' =
+      let t = follows walk.first e comes.firsts takes.one takes.rest next takes.are comes.first in
+      let u = follows walk.second f comes.seconds takes.other takes.others next' takes.are_others comes.second in
       record {
         pair = takes.pair;
         rest = united (keyed takes.rest) (keyed takes.others);
         are = comes.are ∙ takes.finds;
-        is = f.says ∙ sym (item_is takes.one takes.pair f.sayable takes.says);
+        is = t.says ∙ sym (item_is takes.one takes.pair t.sayable takes.says);
         comes = record {
           firsts = takes.rest;
           seconds = takes.others;
-          first = makes takes.rest f.each f.keys f.behind;
-          second = makes' takes.others g.each g.keys g.behind;
+          first = makes takes.rest t.each t.keys t.behind;
+          second = makes' takes.others u.each u.keys u.behind;
           are = refl;
         };
       }
 
-  pub step_without_first : LeavesFirst comes.firsts comes.seconds → Makes walk.first.behind.now new.first → new.second ≡ walk.second → Comes new ps
-  step_without_first leaves makes same =
-      let f = follows walk.first comes.firsts leaves.one leaves.rest leaves.are comes.first in
+  pub step_without_first : walk.first.next ≡ Some e → LeavesFirst comes.firsts comes.seconds → Makes walk.first.behind new.first → new.second ≡ walk.second → Comes new ps
+  step_without_first next leaves makes same =
+      let t = follows walk.first e comes.firsts leaves.one leaves.rest next leaves.are comes.first in
       record {
         firsts = leaves.rest;
         seconds = comes.seconds;
-        first = makes leaves.rest f.each f.keys f.behind;
+        first = makes leaves.rest t.each t.keys t.behind;
         second = subst (λ s. IsSide s comes.seconds) (sym same) comes.second;
         are = comes.are ∙ leaves.goes;
       }
 
-  pub step_without_second : LeavesSecond comes.firsts comes.seconds → Makes walk.second.behind.now new.second → new.first ≡ walk.first → Comes new ps
-  step_without_second leaves makes same =
-      let f = follows walk.second comes.seconds leaves.one leaves.rest leaves.are comes.second in
+  pub step_without_second : walk.second.next ≡ Some e → LeavesSecond comes.firsts comes.seconds → Makes walk.second.behind new.second → new.first ≡ walk.first → Comes new ps
+  step_without_second next leaves makes same =
+      let t = follows walk.second e comes.seconds leaves.one leaves.rest next leaves.are comes.second in
       record {
         firsts = comes.firsts;
         seconds = leaves.rest;
         first = subst (λ s. IsSide s comes.firsts) (sym same) comes.first;
-        second = makes leaves.rest f.each f.keys f.behind;
+        second = makes leaves.rest t.each t.keys t.behind;
         are = comes.are ∙ leaves.goes;
       }
 
-  pub step_done : (comes.firsts ≡ []) × (comes.seconds ≡ []) → ps ≡ []
-  step_done none = comes.are ∙ ap₂ (λ (xs ys : List Record). united (keyed xs) (keyed ys)) none.0 none.1
+pub step_done : (walk : Walking) (ps : List (Key × Entry)) (comes : Comes walk ps) → (comes.firsts ≡ []) × (comes.seconds ≡ []) → ps ≡ []
+step_done walk ps comes none = comes.are ∙ ap₂ (λ (xs ys : List Record). united (keyed xs) (keyed ys)) none.0 none.1
 
 -- ---- it begins
 
@@ -182,14 +185,20 @@ body_is part xs p = (
   ap (drop 12) p.is,
 )
 
+pub are_records : (part : List ℕ) (xs : List Record) → IsPart part xs → AreRecords (drop 12 part)
+are_records part xs p = (xs, p.each, (body_is part xs p).1)
+
 -- ---- fewer octets are left
 
-pub fewer_one : (side new : Side) (others : ℕ) → Says side → IsTrue (is_some side.next) → left_of new ≤ length side.behind.now → left_of new + others < left_of side + others
-fewer_one side new others says some few = let more = some_octets side says some in omega (arith, more, few)
+module _ (side new : Side) (e : RecordRef) (next : side.next ≡ Some e) (few : left_of new ≤ length side.behind) where
+  one_less : left_of new < left_of side
+  one_less = omega (arith, some_octets e, few, ap size_of next)
 
-pub fewer_other : (side new : Side) (others : ℕ) → Says side → IsTrue (is_some side.next) → left_of new ≤ length side.behind.now → others + left_of new < others + left_of side
-fewer_other side new others says some few = let more = some_octets side says some in omega (arith, more, few)
+  pub fewer_one : (others : ℕ) → left_of new + others < left_of side + others
+  fewer_one others = omega (arith, one_less)
 
-pub fewer_both : (one other new new' : Side) → Says one → IsTrue (is_some one.next) → left_of new ≤ length one.behind.now → left_of new' ≤ length other.behind.now
-    → left_of new + left_of new' < left_of one + left_of other
-fewer_both one other new new' says some few few' = let more = some_octets one says some in omega (arith, more, few, few')
+  pub fewer_other : (others : ℕ) → others + left_of new < others + left_of side
+  fewer_other others = omega (arith, one_less)
+
+  pub fewer_both : (other new' : Side) → left_of new' ≤ length other.behind → left_of new + left_of new' < left_of side + left_of other
+  fewer_both other new' few' = omega (arith, one_less, few')

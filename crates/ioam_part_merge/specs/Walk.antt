@@ -1,17 +1,18 @@
 -- Two parts that are walked side by side.
-use Rattle.std.specs.Prelude.{◌≡◌, ℕ, ◌+◌, ⊤, Bool, true, false, List, [], ◌∷◌, length, All, Option, None, Some, IfSome, is_some}
+use Rattle.std.specs.Prelude.{◌≡◌, ℕ, ◌+◌, ⊤, Bool, true, false, List, [], ◌∷◌, length, All, Option, None, Some, is_some}
 use Rattle.std.specs.List.{flat_map}
 use Rattle.std.specs.declared.cmp.Ordering.{Ordering}
 use Rattle.std.specs.declared.cmp.Ordering.TheVariants.{Less, Equal, Greater}
-use Rattle.ioam_dex.specs.Record.{Record, IsRecord, Rec, record_of}
+use Rattle.ioam_dex.specs.Record.{Record, IsRecord}
+use Rattle.ioam_dex.specs.RecordRef.{content}
 use Rattle.ioam_dex.specs.Reads.{records_octets}
-use Rattle.ioam_dex.specs.declared.export.Export.{Export}
+use Rattle.ioam_dex.specs.declared.record_ref.RecordRef.{RecordRef}
 use Rattle.ioam_collect.specs.Entry.{Entry}
 use Rattle.ioam_collect.specs.Keyed.{keyed}
+use Rattle.ioam_collect.specs.Pairs.{pair_of}
 use Rattle.ioam_collect.specs.Unite.{pair_meet, united}
 use Rattle.ioam_collect.specs.declared.key.Key.{Key}
 use Rattle.ioam_part.specs.Part.{HasKey, item_octets}
-use Rattle.ioam_part_merge.specs.Pairs.{pair_of}
 use Rattle.ioam_part_merge.specs.declared.side.Side.{Side}
 use Rattle.ioam_part_merge.specs.declared.turn.Turn.{Turn}
 use Rattle.ioam_part_merge.specs.declared.turn.Turn.TheVariants as turn
@@ -21,22 +22,17 @@ use Rattle.ioam_part_merge.specs.declared.step.Step.TheVariants as step
 -- ---- one of the two
 
 -- the first of these records is next, and those behind it follow
-abbrev pub ShowsNext : Option Export → List ℕ → List Record → Type 0
+abbrev pub ShowsNext : Option RecordRef → List ℕ → List Record → Type 0
 ShowsNext None behind [] = ⊤
 ShowsNext None behind (x ∷ xs) = ⊥
 ShowsNext (Some e) behind [] = ⊥
-ShowsNext (Some e) behind (x ∷ xs) = (record_of e ≡ x) × (behind ≡ records_octets xs)
-
--- the octets of the record that is next are it
-abbrev pub Says : Side → Type 0
-Says side = IfSome side.next (λ e. Rec side.octets.now (record_of e))
+ShowsNext (Some e) behind (x ∷ xs) = (content e ≡ x) × (behind ≡ records_octets xs)
 
 -- these records are left, and have keys
 pub record IsSide (side : Side) (xs : List Record) : Type 0 where
-  pub says : Says side
   pub each : All IsRecord xs
   pub keys : All HasKey xs
-  pub shows : ShowsNext side.next side.behind.now xs
+  pub shows : ShowsNext side.next side.behind xs
 
 -- ---- which comes next
 
@@ -50,11 +46,11 @@ turn_by Equal false false = turn.Both
 turn_by Greater first second = turn.Second
 
 -- by what is next
-abbrev pub turn_of : Option Export → Option Export → Turn
+abbrev pub turn_of : Option RecordRef → Option RecordRef → Turn
 turn_of None None = turn.Done
 turn_of None (Some f) = turn.Second
 turn_of (Some e) None = turn.First
-turn_of (Some e) (Some f) = turn_by (pair_meet (pair_of (record_of e)) (pair_of (record_of f))) (is_some e.visit) (is_some f.visit)
+turn_of (Some e) (Some f) = turn_by (pair_meet (pair_of (content e)) (pair_of (content f))) (is_some (content e).visit) (is_some (content f).visit)
 
 -- ---- the walk
 
@@ -83,13 +79,23 @@ pub record NextIs (ps : List (Key × Entry)) (octets : List ℕ) (new : Walking)
   pub is : octets ≡ item_octets pair.1
   pub comes : Comes new rest
 
--- how many octets are left of both
+-- how many octets a record has, if it is there
+abbrev pub size_of : Option RecordRef → ℕ
+size_of None = 0
+size_of (Some e) = length e.octets.now
+
+-- how many octets are left of one
 abbrev pub left_of : Side → ℕ
-left_of side = length side.octets.now + length side.behind.now
+left_of side = size_of side.next + length side.behind
 
 -- the same of a walk
 abbrev pub left : Walking → ℕ
 left walk = left_of walk.first + left_of walk.second
+
+-- the step that takes a record
+abbrev pub taken_of : Option RecordRef → Step
+taken_of None = step.Done
+taken_of (Some e) = step.Taken e.octets
 
 -- what a step leaves of the pairs that come
 abbrev pub StepsSo : List (Key × Entry) → Step → Walking → Type 0

@@ -1,13 +1,14 @@
 //! A part that is read in pieces and kept as it is.
-ghost use Rattle.std.specs.Prelude.{◌≡◌, ◌+◌, ◌<◌, ◌^◌, ◌++◌, [], List, ℕ, IfOk, MatchResult, length};
+ghost use Rattle.std.specs.Prelude.{◌≡◌, ◌+◌, ◌<◌, ◌^◌, ◌++◌, [], List, ℕ, IfOk, MatchResult, drop, length};
 
 use ioam_base::memory::NoMemory;
 use ioam_base::text::append;
-use ioam_part::{PartFault, PartReader, PartRefused};
+use ioam_dex::Records;
+use ioam_part::{HEAD_SIZE, PartFault, PartReader, PartRefused};
 use std::alloc::Global;
 use std::marker::Model;
 
-/// The octets of a part.
+/// The octets of a part, which were read as one.
 #[derive(Drop)]
 pub struct PartOctets {
     octets: Vec<u8>,
@@ -19,14 +20,19 @@ impl Model for PartOctets {
     ghost Value = { List ℕ };
 
     ghost view = { λ part. part.octets.items };
+
+    ghost use Rattle.ioam_dex.specs.Record.{Record};
+    ghost use Rattle.ioam_part.specs.Part.{IsPart};
+
+    ghost invariant = { λ part. (xs : List Record) × IsPart part.octets.items xs };
 }
 
 impl PartOctets {
-    /// These.
-    pub fn octets(&self) -> &[u8]
-        ensures { result.now ≡ self.now }
+    /// The records of the part, one after another.
+    pub(crate) fn records(&self) -> Records<'_>
+        ensures { result ≡ drop 12 self.now }
     {
-        &self.octets
+        Records::new(&self.octets[HEAD_SIZE..])
     }
 }
 
@@ -44,6 +50,10 @@ impl Model for PartKeeper {
     ghost Value = { Keeping };
 
     ghost view = { λ keeper. record { reader = keeper.reader; octets = keeper.octets.items } };
+
+    ghost use Rattle.ioam_part.specs.Reading.{Stands};
+
+    ghost invariant = { λ keeper. Stands 0 keeper.octets.items keeper.reader };
 }
 
 impl PartKeeper {

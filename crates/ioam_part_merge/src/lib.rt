@@ -1,10 +1,8 @@
 //! Two parts joined: a walk of both side by side, which holds of each its octets alone.
 #![tactic(auto)]
 
-mod cores;
 mod counting;
 mod keeper;
-mod making;
 mod side;
 mod step;
 mod turn;

@@ -1,11 +1,10 @@
 //! Which record comes next of two parts.
 ghost use Rattle.std.specs.Prelude.{◌≡◌, None, Some};
-ghost use Rattle.ioam_dex.specs.Record.{HasItsParts, record_of};
-ghost use Rattle.ioam_part_merge.specs.Walk.{Says, turn_by, turn_of};
+ghost use Rattle.ioam_part_merge.specs.Walk.{turn_by, turn_of};
 
-use crate::cores::Cores;
 use crate::side::Side;
-use ioam_dex::Export;
+use ioam_collect::meet;
+use ioam_dex::RecordRef;
 use std::cmp::Ordering;
 
 /// What is done with the records that are next.
@@ -46,18 +45,12 @@ fn turn_by(order: Ordering, first: bool, second: bool) -> Turn
 }
 
 // The turn of a record and a side.
-fn turn_beside(one: &Export<'_>, second: &Side<'_>, cores: &mut Cores) -> Turn
-    requires one { HasItsParts (record_of one.now) }
-    requires second { Says second.now }
+fn turn_beside(one: &RecordRef<'_>, second: &Side<'_>) -> Turn
     ensures { result ≡ turn_of (Some one.now) second.now.next }
 {
     match second.next {
         None => Turn::First,
-        Some(other) => turn_by(
-            cores.meet(one, &other),
-            one.visit.is_some(),
-            other.visit.is_some(),
-        ),
+        Some(other) => turn_by(meet(one, &other), one.has_visit(), other.has_visit()),
     }
 }
 
@@ -72,13 +65,11 @@ fn turn_alone(second: &Side<'_>) -> Turn
 }
 
 /// The turn of two sides.
-pub(crate) fn next_turn(first: &Side<'_>, second: &Side<'_>, cores: &mut Cores) -> Turn
-    requires first { Says first.now }
-    requires second { Says second.now }
+pub(crate) fn next_turn(first: &Side<'_>, second: &Side<'_>) -> Turn
     ensures { result ≡ turn_of first.now.next second.now.next }
 {
     match first.next {
         None => turn_alone(second),
-        Some(one) => turn_beside(&one, second, cores),
+        Some(one) => turn_beside(&one, second),
     }
 }

@@ -4,8 +4,6 @@ use Rattle.ioam_part_merge.proofs.step.next_of.Goals as goal
 pub steps-preserved : goal.steps-preserved
 steps-preserved c = record {
   comes = λ ps comes. c.in-Without.ensures.steps ps (c.steps.invariant.comes ps comes);
-  first = c.in-Without.ensures.first;
-  second = c.in-Without.ensures.second;
   left = omega (arith, c.in-Without.ensures.fewer, c.steps.invariant.left);
 }
 
