@@ -1,2 +1,3 @@
 pub mod FlowsLaws
 pub mod SumsLaws
+mod TallyLaws

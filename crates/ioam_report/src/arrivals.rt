@@ -8,9 +8,9 @@ ghost use Rattle.ioam_report.specs.RunText.{reason_name, node_name, port_name, f
 use crate::reasons::reason_text;
 use ioam_base::memory::NoMemory;
 use ioam_base::text::{append, append_two, settle};
+use ioam_line::{LineBuffer, Piece, Value};
 use ioam_node::Reason;
 use ioam_plan::{End, Itinerary};
-use ioam_report_lines::Line;
 use ioam_topo::{Domain, FlowId, NodeId, PortId};
 use ioam_tunnel::Numbers;
 
@@ -38,8 +38,8 @@ fn flow_name(domain: &Domain, flow: FlowId) -> &[u8]
     domain.flows()[flow.0 as usize].name.text().as_bytes()
 }
 
-// Appends three texts one behind the other.
-fn append_three(
+/// Appends three texts, one after the other, or leaves what was there.
+pub(crate) fn append_three(
     out: &mut Vec<u8>,
     first: &[u8],
     second: &[u8],
@@ -53,12 +53,12 @@ fn append_three(
     settle(out, before, answer)
 }
 
-// Appends the number of an arrival and the port by which it came.
+// Appends the number of an arrival and its port. The names of a domain have no bound here, so they are appended and not put.
 fn put_port(
     domain: &Domain,
     number: u64,
     port: PortId,
-    line: &mut Line,
+    line: &mut LineBuffer<128>,
     out: &mut Vec<u8>,
 ) -> Result<(), NoMemory>
     requires { port.0 < length (ports domain.now) }
@@ -67,8 +67,8 @@ fn put_port(
         else out.old.items) }
 {
     line.clear();
-    line.put(b" ");
-    line.number(number);
+    line.put::<false>(Piece::Said(b" "));
+    line.put::<false>(Piece::Fact(b"", b"packet", Value::Number(number)));
     append_three(out, line.octets(), port_name(domain, port), b" ")
 }
 
@@ -101,37 +101,35 @@ fn put_end(domain: &Domain, end: End, out: &mut Vec<u8>) -> Result<(), NoMemory>
     }
 }
 
-// Puts the sequence number of a direct export in front, if there is one.
-fn put_direct(number: Option<u32>, line: &mut Line)
-    requires { 28 + length line.old ≤ 1024 }
+// Puts the sequence number of a direct export, if there is one.
+fn put_direct(number: Option<u32>, line: &mut LineBuffer<128>)
+    requires { 40 + length line.old ≤ 128 }
     ensures value { line.new ≡ direct_text number ++ line.old }
-    ensures size { length line.new ≤ 28 + length line.old }
+    ensures size { length line.new ≤ 40 + length line.old }
 {
     match number {
         None => {}
         Some(number) => {
-            line.number(u64::from(number));
-            line.put(b" direct ");
+            let number = Value::Number(u64::from(number));
+            line.put::<false>(Piece::Fact(b" direct ", b"sequence", number));
         }
     }
 }
 
 // Puts the numbers of a packet in its flow together, and a line feed.
-fn put_numbers(numbers: &Numbers, line: &mut Line)
+fn put_numbers(numbers: &Numbers, line: &mut LineBuffer<128>)
     ensures { line.new ≡ codes " " ++ decimal numbers.now.number ++ direct_text numbers.now.direct ++ line_feed }
 {
-    line.clear();
-    line.put(b"\n");
+    line.end::<false>();
     put_direct(numbers.direct, line);
-    line.number(numbers.number);
-    line.put(b" ");
+    line.put::<false>(Piece::Fact(b" ", b"number", Value::Number(numbers.number)));
 }
 
 // Appends the flow in which a packet is enclosed, if it is, and its numbers there, and a line feed.
 fn put_carried(
     domain: &Domain,
     carried: Option<(FlowId, Numbers)>,
-    line: &mut Line,
+    line: &mut LineBuffer<128>,
     out: &mut Vec<u8>,
 ) -> Result<(), NoMemory>
     requires { IfSome carried (λ carried. carried.0.0 < length (flows domain.now)) }
@@ -167,7 +165,7 @@ pub fn put_arrival(
         else out.old.items) }
 {
     let before = out.len();
-    let mut line = Line::new();
+    let mut line = LineBuffer::new();
     put_port(domain, number, itinerary.port, &mut line, out)?;
     let answer = put_end(domain, itinerary.end, out);
     settle(out, before, answer)?;

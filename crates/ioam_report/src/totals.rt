@@ -1,88 +1,92 @@
 //! The sums at the end of a run's report.
-ghost use Rattle.std.specs.Prelude.{◌≡◌, ◌++◌, List, [], is_ok, if◌then◌else◌, codes, decimal};
+ghost use Rattle.std.specs.Prelude.{◌≡◌, ◌++◌, ◌≤◌, List, [], length, is_ok, if◌then◌else◌};
 ghost use Rattle.ioam_edge.specs.Receiver.{tally_in};
 ghost use Rattle.ioam_plan.specs.declared.itinerary.Itinerary.{Itinerary};
 ghost use Rattle.ioam_report.specs.Sums.{StandFor};
 ghost use Rattle.ioam_report.specs.SumsText.{packets_line, node_line, node_lines, next_text, tally_text, is_numbered, flow_sum_line, flow_lines, sums_text, arrivals_text};
-ghost use Rattle.ioam_report_lines.specs.Piece.{piece_text};
+ghost use Rattle.ioam_line.specs.Given.{value_of};
+ghost use Rattle.ioam_line.specs.Line.{value_text, value_most};
 
+use crate::arrivals::append_three;
 use crate::flows::FlowSum;
 use crate::sums::{NodeSum, Sums};
 use ioam_base::memory::NoMemory;
-use ioam_base::text::{append, settle};
+use ioam_base::text::settle;
 use ioam_edge::{Tally, asks};
-use ioam_report_lines::{Piece, put_pieces};
+use ioam_line::{LineBuffer, Piece, Value};
 use ioam_topo::{Domain, Flow, Node};
 
 // Appends the line for all arrivals.
-fn put_packets_line(sums: &Sums, out: &mut Vec<u8>) -> Result<(), NoMemory>
+fn put_packets_line(
+    sums: &Sums,
+    line: &mut LineBuffer<512>,
+    out: &mut Vec<u8>,
+) -> Result<(), NoMemory>
     ensures { out.new.items ≡ (if is_ok result
         then out.old.items ++ packets_line sums.now.packets sums.now.left sums.now.dropped
         else out.old.items) }
 {
-    put_pieces(
-        &[
-            Piece::Number(b"packets ", sums.packets),
-            Piece::Number(b" left ", sums.left),
-            Piece::Number(b" dropped ", sums.dropped),
-            Piece::Text(b"\n"),
-        ],
-        out,
-    )
+    line.end::<false>();
+    line.put::<false>(Piece::Fact(b" dropped ", b"dropped", Value::Number(sums.dropped)));
+    line.put::<false>(Piece::Fact(b" left ", b"left", Value::Number(sums.left)));
+    line.put::<false>(Piece::Fact(b"packets ", b"packets", Value::Number(sums.packets)));
+    line.finish::<false>(b"sums", out)
 }
 
-// Appends the line of a node.
-fn put_node_line(name: &[u8], sum: NodeSum, out: &mut Vec<u8>) -> Result<(), NoMemory>
+// Appends the line of a node. Its name has no bound here, so it is appended and not put.
+fn put_node_line(
+    name: &[u8],
+    sum: NodeSum,
+    line: &mut LineBuffer<512>,
+    out: &mut Vec<u8>,
+) -> Result<(), NoMemory>
     ensures { out.new.items ≡ (if is_ok result then out.old.items ++ node_line name.now sum else out.old.items) }
 {
-    put_pieces(
-        &[
-            Piece::Text(b"node "),
-            Piece::Text(name),
-            Piece::Number(b" seen ", sum.seen),
-            Piece::Number(b" dropped ", sum.dropped),
-            Piece::Text(b"\n"),
-        ],
-        out,
-    )
+    line.end::<false>();
+    line.put::<false>(Piece::Fact(b" dropped ", b"dropped", Value::Number(sum.dropped)));
+    line.put::<false>(Piece::Fact(b" seen ", b"seen", Value::Number(sum.seen)));
+    append_three(out, b"node ", name, line.octets())
 }
 
 // Appends the lines of the nodes.
-fn put_node_lines(nodes: &[Node], sums: &[NodeSum], out: &mut Vec<u8>) -> Result<(), NoMemory>
+fn put_node_lines(
+    nodes: &[Node],
+    sums: &[NodeSum],
+    line: &mut LineBuffer<512>,
+    out: &mut Vec<u8>,
+) -> Result<(), NoMemory>
     ensures { out.new.items ≡ (if is_ok result then out.old.items ++ node_lines nodes.now sums.now else out.old.items) }
 {
     let before = out.len();
     for (node, sum) in nodes.iter().zip(sums) {
-        let answer = put_node_line(node.name.text().as_bytes(), *sum, out);
+        let answer = put_node_line(node.name.text().as_bytes(), *sum, line, out);
         settle(out, before, answer)?;
     }
     Ok(())
 }
 
-// The number due, or `-`.
-fn next(number: Option<u64>) -> Piece<'static>
-    ensures { piece_text result ≡ codes " next " ++ next_text number }
+// The number due, or that it passes 64 bits.
+fn next(number: Option<u64>) -> Value<'static>
+    ensures value { value_text (value_of result) ≡ next_text number }
+    ensures size { value_most (value_of result) ≤ 20 }
 {
     match number {
-        None => Piece::Dash(b" next "),
-        Some(number) => Piece::Number(b" next ", number),
+        None => Value::Unknown,
+        Some(number) => Value::Number(number),
     }
 }
 
-// Appends what the sequence numbers at the exit of a flow tell.
-fn put_tally(tally: &Tally, out: &mut Vec<u8>) -> Result<(), NoMemory>
-    ensures { out.new.items ≡ (if is_ok result then out.old.items ++ tally_text tally.now else out.old.items) }
+// Puts what the sequence numbers at the exit of a flow tell.
+fn put_tally(tally: &Tally, line: &mut LineBuffer<512>)
+    requires { length line.old ≤ 2 }
+    ensures value { line.new ≡ tally_text tally.now ++ line.old }
+    ensures size { length line.new ≤ 210 }
 {
-    put_pieces(
-        &[
-            next(tally.next),
-            Piece::Number(b" gaps ", tally.gaps),
-            Piece::Number(b" missed ", tally.missed),
-            Piece::Number(b" late ", tally.late),
-            Piece::Number(b" repeats ", tally.repeats),
-        ],
-        out,
-    )
+    line.put::<false>(Piece::Fact(b" repeats ", b"repeats", Value::Number(tally.repeats)));
+    line.put::<false>(Piece::Fact(b" late ", b"late", Value::Number(tally.late)));
+    line.put::<false>(Piece::Fact(b" missed ", b"missed", Value::Number(tally.missed)));
+    line.put::<false>(Piece::Fact(b" gaps ", b"gaps", Value::Number(tally.gaps)));
+    line.put::<false>(Piece::Fact(b" next ", b"next", next(tally.next)));
 }
 
 // Whether the packets of a flow have sequence numbers.
@@ -95,57 +99,46 @@ fn is_numbered(edge: Option<u16>) -> bool
     }
 }
 
-// Appends the name of a flow and its counts.
-fn put_flow_counts(name: &[u8], sum: &FlowSum, out: &mut Vec<u8>) -> Result<(), NoMemory>
-    ensures { out.new.items ≡ (if is_ok result
-        then out.old.items ++ (codes "flow " ++ name.now ++ codes " enclosed " ++ decimal sum.now.enclosed
-        ++ codes " exited " ++ decimal sum.now.exited ++ codes " direct " ++ decimal sum.now.direct)
-        else out.old.items) }
-{
-    put_pieces(
-        &[
-            Piece::Text(b"flow "),
-            Piece::Text(name),
-            Piece::Number(b" enclosed ", sum.enclosed),
-            Piece::Number(b" exited ", sum.exited),
-            Piece::Number(b" direct ", sum.direct),
-        ],
-        out,
-    )
-}
-
-// Appends what the sequence numbers tell, where the packets of the flow have some.
-fn put_numbers(edge: Option<u16>, sum: &FlowSum, out: &mut Vec<u8>) -> Result<(), NoMemory>
-    ensures { out.new.items ≡ (if is_ok result
-        then out.old.items ++ (if is_numbered edge then tally_text (tally_in sum.now.receiver) else [])
-        else out.old.items) }
+// Puts what the sequence numbers tell, if the packets of the flow have some.
+fn put_numbers(edge: Option<u16>, sum: &FlowSum, line: &mut LineBuffer<512>)
+    requires { length line.old ≤ 2 }
+    ensures value { line.new ≡ (if is_numbered edge then tally_text (tally_in sum.now.receiver) else []) ++ line.old }
+    ensures size { length line.new ≤ 210 }
 {
     if is_numbered(edge) {
-        put_tally(&sum.receiver.tally(), out)
-    } else {
-        Ok(())
+        put_tally(&sum.receiver.tally(), line);
     }
 }
 
-// Appends the line of a flow.
-fn put_flow_line(flow: &Flow, sum: &FlowSum, out: &mut Vec<u8>) -> Result<(), NoMemory>
+// Appends the line of a flow. Its name has no bound here, so it is appended and not put.
+fn put_flow_line(
+    flow: &Flow,
+    sum: &FlowSum,
+    line: &mut LineBuffer<512>,
+    out: &mut Vec<u8>,
+) -> Result<(), NoMemory>
     ensures { out.new.items ≡ (if is_ok result then out.old.items ++ flow_sum_line flow.now sum.now else out.old.items) }
 {
-    let before = out.len();
-    put_flow_counts(flow.name.text().as_bytes(), sum, out)?;
-    let answer = put_numbers(flow.edge, sum, out);
-    settle(out, before, answer)?;
-    let answer = append(out, b"\n");
-    settle(out, before, answer)
+    line.end::<false>();
+    put_numbers(flow.edge, sum, line);
+    line.put::<false>(Piece::Fact(b" direct ", b"direct", Value::Number(sum.direct)));
+    line.put::<false>(Piece::Fact(b" exited ", b"exited", Value::Number(sum.exited)));
+    line.put::<false>(Piece::Fact(b" enclosed ", b"enclosed", Value::Number(sum.enclosed)));
+    append_three(out, b"flow ", flow.name.text().as_bytes(), line.octets())
 }
 
 // Appends the lines of the flows.
-fn put_flow_lines(flows: &[Flow], sums: &[FlowSum], out: &mut Vec<u8>) -> Result<(), NoMemory>
+fn put_flow_lines(
+    flows: &[Flow],
+    sums: &[FlowSum],
+    line: &mut LineBuffer<512>,
+    out: &mut Vec<u8>,
+) -> Result<(), NoMemory>
     ensures { out.new.items ≡ (if is_ok result then out.old.items ++ flow_lines flows.now sums.now else out.old.items) }
 {
     let before = out.len();
     for (flow, sum) in flows.iter().zip(sums) {
-        let answer = put_flow_line(flow, sum, out);
+        let answer = put_flow_line(flow, sum, line, out);
         settle(out, before, answer)?;
     }
     Ok(())
@@ -164,9 +157,10 @@ pub fn put_sums(domain: &Domain, sums: &Sums, out: &mut Vec<u8>) -> Result<(), N
         → sums_text domain.now sums.now ≡ arrivals_text domain.now arrivals }
 {
     let before = out.len();
-    put_packets_line(sums, out)?;
-    let answer = put_node_lines(domain.nodes(), sums.nodes.list(), out);
+    let mut line = LineBuffer::new();
+    put_packets_line(sums, &mut line, out)?;
+    let answer = put_node_lines(domain.nodes(), sums.nodes.list(), &mut line, out);
     settle(out, before, answer)?;
-    let answer = put_flow_lines(domain.flows(), sums.flows.list(), out);
+    let answer = put_flow_lines(domain.flows(), sums.flows.list(), &mut line, out);
     settle(out, before, answer)
 }

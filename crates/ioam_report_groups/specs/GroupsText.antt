@@ -6,7 +6,7 @@ use Rattle.ioam_base.specs.Octets.{u32_at, u64_at}
 use Rattle.ioam_data.specs.Kind.{words}
 use Rattle.ioam_dex.specs.Record.{Record, kind_of, element_of}
 use Rattle.ioam_pool.specs.Entry.{Entry}
-use Rattle.ioam_report_lines.specs.Digits.{digits_of}
+use Rattle.ioam_line.specs.Digits.{digits_of}
 use Rattle.ioam_report_lines.specs.FieldsText.{element_text}
 use Rattle.ioam_report_lines.specs.TraceText.{line_feed}
 use Rattle.ioam_collect.specs.Keyed.{keyed}

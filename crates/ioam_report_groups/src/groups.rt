@@ -1,43 +1,45 @@
 //! The lines of groups.
-ghost use Rattle.std.specs.Prelude.{◌≡◌, ◌<◌, ◌^◌, ◌++◌, List, length, is_ok, if◌then◌else◌};
+ghost use Rattle.std.specs.Prelude.{◌≡◌, ◌<◌, ◌≤◌, ◌^◌, ◌++◌, List, length, is_ok, if◌then◌else◌};
 ghost use Rattle.std.specs.List.{AllByRecursion, flat_map};
 ghost use Rattle.ioam_dex.specs.Record.{Record};
 ghost use Rattle.ioam_collect.specs.Best.{groups_of};
 ghost use Rattle.ioam_collect.specs.Collected.{Stands};
 ghost use Rattle.ioam_collect.specs.Keyed.{IsOfRecord, keyed};
+ghost use Rattle.ioam_report_lines.specs.TraceText.{line_feed};
 ghost use Rattle.ioam_report_groups.specs.GroupsText.{key_line, group_text, counts_line, collected_text, records_text};
 
 use crate::ahead::make_room;
 use crate::items::put_items;
 use ioam_base::memory::NoMemory;
-use ioam_base::text::{append, settle};
+use ioam_base::text::settle;
 use ioam_collect::{Collector, Group, Groups, Key, SIDE_BY_SIDE};
-use ioam_report_lines::{Line, Piece, put_pieces};
+use ioam_line::{LineBuffer, Piece, Value};
+use ioam_report_lines::ReportLine;
 
-// Puts the line of a key together, its last word first.
-fn put_key(key: Key, count: u64, line: &mut Line)
-    ensures { line.new ≡ key_line key count }
+// Puts the words of a key, its last word first.
+fn put_key(key: Key, count: u64, line: &mut ReportLine)
+    requires { line.old ≡ line_feed }
+    ensures value { line.new ≡ key_line key count }
+    ensures size { length line.new ≤ 200 }
 {
-    line.clear();
-    line.put(b"\n");
-    line.number(count);
-    line.put(b" ");
-    line.number(u64::from(key.seq));
-    line.put(b" ");
-    line.number(u64::from(key.flow));
-    line.put(b" ");
-    line.number(u64::from(key.namespace.0));
-    line.put(b"group ");
+    line.put::<false>(Piece::Fact(b" ", b"records", Value::Number(count)));
+    let sequence = Value::Number(u64::from(key.seq));
+    line.put::<false>(Piece::Fact(b" ", b"sequence", sequence));
+    let flow = Value::Number(u64::from(key.flow));
+    line.put::<false>(Piece::Fact(b" ", b"flow_id", flow));
+    let namespace = Value::Number(u64::from(key.namespace.0));
+    line.put::<false>(Piece::Fact(b"group ", b"namespace", namespace));
 }
 
-// Appends the lines of a group. The line that is lent holds anything before and after.
-fn put_group(group: Group<'_>, line: &mut Line, out: &mut Vec<u8>) -> Result<(), NoMemory>
+// Appends the lines of a group. The buffer that is lent holds anything before and after.
+fn put_group(group: Group<'_>, line: &mut ReportLine, out: &mut Vec<u8>) -> Result<(), NoMemory>
     requires { AllByRecursion IsOfRecord group.items }
     ensures { out.new.items ≡ (if is_ok result then out.old.items ++ group_text (group.entry.key, group.entry.items) else out.old.items) }
 {
     let before = out.len();
+    line.end::<false>();
     put_key(group.key, group.items.left() as u64, line);
-    append(out, line.octets())?;
+    line.finish::<false>(b"group", out)?;
     let answer = put_items(group.items, line, out);
     settle(out, before, answer)
 }
@@ -46,7 +48,7 @@ fn put_group(group: Group<'_>, line: &mut Line, out: &mut Vec<u8>) -> Result<(),
 fn put_all(
     groups: Groups<'_>,
     ahead: &mut Groups<'_>,
-    line: &mut Line,
+    line: &mut ReportLine,
     out: &mut Vec<u8>,
 ) -> Result<(), NoMemory>
     requires { AllByRecursion (λ group. AllByRecursion IsOfRecord group.1) groups }
@@ -67,20 +69,22 @@ fn put_all(
 }
 
 // Appends the counts.
-fn put_counts(read: u64, kept: u64, unkeyed: u64, out: &mut Vec<u8>) -> Result<(), NoMemory>
+fn put_counts(
+    read: u64,
+    kept: u64,
+    unkeyed: u64,
+    line: &mut ReportLine,
+    out: &mut Vec<u8>,
+) -> Result<(), NoMemory>
     ensures { out.new.items ≡ (if is_ok result then out.old.items ++ counts_line read kept unkeyed else out.old.items) }
 {
     let repeats = read.saturating_sub(kept).saturating_sub(unkeyed);
-    put_pieces(
-        &[
-            Piece::Number(b"records ", read),
-            Piece::Number(b" kept ", kept),
-            Piece::Number(b" repeats ", repeats),
-            Piece::Number(b" unkeyed ", unkeyed),
-            Piece::Text(b"\n"),
-        ],
-        out,
-    )
+    line.end::<false>();
+    line.put::<false>(Piece::Fact(b" unkeyed ", b"unkeyed", Value::Number(unkeyed)));
+    line.put::<false>(Piece::Fact(b" repeats ", b"repeats", Value::Number(repeats)));
+    line.put::<false>(Piece::Fact(b" kept ", b"kept", Value::Number(kept)));
+    line.put::<false>(Piece::Fact(b"records ", b"records", Value::Number(read)));
+    line.finish::<false>(b"sums", out)
 }
 
 /// Appends the lines of a collector's groups, in the order of their keys: for each a line `group` with the
@@ -93,7 +97,7 @@ pub fn put_lines(collector: &Collector, out: &mut Vec<u8>) -> Result<(), NoMemor
     ensures groups { (xs : List Record) → Stands collector.now xs → collector.now.groups ≡ groups_of (keyed xs) }
 {
     let mut ahead = collector.groups();
-    put_all(collector.groups(), &mut ahead, &mut Line::new(), out)
+    put_all(collector.groups(), &mut ahead, &mut LineBuffer::new(), out)
 }
 
 /// Appends the lines of a collector's groups ([`put_lines`]), and then a line with how many records were
@@ -109,6 +113,7 @@ pub fn put_groups(collector: &Collector, out: &mut Vec<u8>) -> Result<(), NoMemo
         collector.read(),
         u64::from(collector.held()),
         collector.unkeyed(),
+        &mut LineBuffer::new(),
         out,
     );
     settle(out, before, answer)

@@ -1,5 +1,5 @@
 -- Laws of elements of the fields of bits 0 to 3 alone.
-use Rattle.std.proofs.Common.{◌≡◌, ℕ, ◌/◌, ◌||◌, Bool, false, List, [], ◌++◌, length, drop, None, Option, arith, refl, sym, ap, ◌∙◌}
+use Rattle.std.proofs.Common.{◌≡◌, ℕ, ◌/◌, ◌||◌, Bool, false, List, ◌++◌, length, None, Option, arith, refl, sym, ap, ◌∙◌}
 use Rattle.std.proofs.lemmas.Bool.{or_parts}
 use Rattle.std.proofs.lemmas.List.{append-nil}
 use Rattle.ioam_data.specs.Fields.{Held, fields_of}
@@ -7,10 +7,8 @@ use Rattle.ioam_data.specs.Kind.{has, words}
 use Rattle.ioam_data.specs.Table.{table}
 use Rattle.ioam_data.proofs.TableLaws.{parted-there}
 use Rattle.ioam_report_lines.specs.Early.{IsEarly, early_text}
-use Rattle.ioam_report_lines.specs.FieldsText.{element_text}
 use Rattle.ioam_report_lines.specs.Spaced.{bits_text, early_words, fillers_text, snapshot_text, spaced_fields}
 use Rattle.ioam_report_lines.proofs.FittingLaws.{no-fill}
-use Rattle.ioam_report_lines.proofs.WordsLaws.{element_text_is}
 
 -- equal fields have equal words
 pub same-words : {hop_node hop_node' faces faces' : Option (ℕ × ℕ)} {seconds seconds' fraction fraction' : Option ℕ}
@@ -72,11 +70,10 @@ no_snapshot_field : (kind : ℕ) (octets : List ℕ) → has kind 22 ≡ false �
 unfolding fields_of
 no_snapshot_field kind octets none = rw none refl
 
--- the text of an element of these fields alone
-pub early_text-is : (kind node_len : ℕ) (octets : List ℕ) → (octets ≡ [] → ⊥) → IsEarly kind node_len
-    → element_text kind node_len octets ≡ drop 1 (early_text kind octets)
-early_text-is kind node_len octets some is =
-    ap (λ n. element_text kind n octets) (sym is.exact)
-    ∙ element_text_is kind (words kind) octets some
-    ∙ ap (drop 1) (only-bits (fields_of kind (words kind) octets) (no-fill kind octets) (no_snapshot_field kind octets is.no_snapshot))
-    ∙ ap (drop 1) (early-bits kind node_len octets is)
+-- the words of an element of these fields alone
+pub early_spaced : (kind node_len : ℕ) (octets : List ℕ) → IsEarly kind node_len
+    → spaced_fields (fields_of kind node_len octets) ≡ early_text kind octets
+early_spaced kind node_len octets is =
+    ap (λ n. spaced_fields (fields_of kind n octets)) (sym is.exact)
+    ∙ only-bits (fields_of kind (words kind) octets) (no-fill kind octets) (no_snapshot_field kind octets is.no_snapshot)
+    ∙ early-bits kind node_len octets is

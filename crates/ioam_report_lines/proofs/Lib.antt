@@ -3,10 +3,11 @@ mod EarlyLaws
 pub mod ElementsLaws
 pub mod HopTracesLaws
 pub mod FilledLaws
-mod FittingLaws
-mod LineLaws
+pub mod FittingLaws
+mod LeadLaws
 pub mod LinesLaws
 pub mod ListedLaws
+mod SpacedLaws
 pub mod TextLaws
 pub mod TracesLaws
 pub mod WordsLaws

@@ -1,10 +1,10 @@
--- Words with a space in front of each, without the first space, have one space between each two.
+-- Words with a space before each, without the first space, have one space between each two.
 use Rattle.std.proofs.Common.{◌≡◌, ℕ, zero, suc, ◌/◌, List, [], ◌∷◌, ◌++◌, length, take, drop, codes, Option, Some, None, append_assoc, refl, sym, ap, ◌∙◌}
 use Rattle.std.specs.List.{flat_map, join_with_byte}
 use Rattle.std.proofs.lemmas.List.{append-nil}
 use Rattle.std.proofs.lemmas.List.Concat.{flat_map-append}
 use Rattle.ioam_data.specs.Fields.{Held, fields_of}
-use Rattle.ioam_report_lines.specs.Digits.{digits_of}
+use Rattle.ioam_line.specs.Digits.{digits_of}
 use Rattle.ioam_report_lines.specs.FieldsText.{word_of, bit_words, filler_words, snapshot_words, element_words, element_text}
 use Rattle.ioam_report_lines.specs.Spaced.{when_there, bits_text, fillers_text, snapshot_text, spaced_fields}
 

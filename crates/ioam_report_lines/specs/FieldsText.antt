@@ -1,32 +1,34 @@
 -- How an element is printed: its fields in bit order (RFC 9197 section 4.4.2), separated by one space.
-use Rattle.std.specs.Prelude.{ℕ, zero, suc, ◌/◌, ◌==◌, if◌then◌else◌, List, [], ◌∷◌, ◌++◌, Option, Some, None, length, take, drop, decimal, codes}
+use Rattle.std.specs.Prelude.{ℕ, zero, suc, ◌/◌, List, [], ◌∷◌, ◌++◌, Option, Some, None, length, take, drop, decimal, codes}
 use Rattle.std.specs.List.{join_with_byte}
-use Rattle.std.specs.Int.{w32, w64, to_be_bytes}
 use Rattle.ioam_data.specs.Fields.{Held, fields_of}
-use Rattle.ioam_report_lines.specs.Digits.{digits_of}
+use Rattle.ioam_line.specs.Digits.{digits_of}
+use Rattle.ioam_line.specs.Given.{known_octets}
+use Rattle.ioam_line.specs.Line as line
+use Rattle.ioam_line.specs.Line.{digits, value_text}
+use Rattle.ioam_line.specs.declared.piece.Width.TheVariants.{Three, Four, Eight}
 
--- ---- values, or `-` where the field is all ones
+-- ---- values, or `-` if the field is all ones
 
 -- in decimal digits; `ones` is the number that all ones make
 abbrev pub known : ℕ → ℕ → List ℕ
-known ones value = if value == ones then codes "-" else decimal value
+known ones value = value_text (line.known ones value)
 
 -- a number of 32 bits in 8 hexadecimal digits
 abbrev pub known_word : ℕ → List ℕ
-known_word value = if value == 4294967295 then codes "-" else digits_of (to_be_bytes w32 value)
+known_word value = value_text (known_octets 4294967295 Four value)
 
 -- one of 64 bits in 16 digits
 abbrev pub known_wide : ℕ → List ℕ
-known_wide value = if value == 18446744073709551615 then codes "-" else digits_of (to_be_bytes w64 value)
+known_wide value = value_text (known_octets 18446744073709551615 Eight value)
 
 -- one of 24 bits in 6 digits
 abbrev pub known_narrow : ℕ → List ℕ
-known_narrow value = if value == 16777215 then codes "-" else digits_of (drop 1 (to_be_bytes w32 value))
+known_narrow value = value_text (known_octets 16777215 Three value)
 
 -- the data of a snapshot in hexadecimal digits, or `-` for no data
 abbrev pub opaque_digits : List ℕ → List ℕ
-opaque_digits [] = codes "-"
-opaque_digits (octet ∷ octets) = digits_of (octet ∷ octets)
+opaque_digits octets = value_text (digits octets)
 
 -- ---- words
 

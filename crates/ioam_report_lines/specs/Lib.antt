@@ -1,8 +1,6 @@
-pub mod Digits
 pub mod Early
 pub mod FieldsText
 pub mod HopText
-pub mod Piece
 pub mod Spaced
 pub mod TraceText
 pub mod TracesText

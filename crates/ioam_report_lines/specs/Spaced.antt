@@ -1,8 +1,8 @@
--- The words of an element with a space in front of each, as they are appended.
-use Rattle.std.specs.Prelude.{ℕ, zero, suc, ◌/◌, List, [], ◌∷◌, ◌++◌, Option, Some, None, length, take, drop, decimal, codes}
+-- The words of an element with a space before each, as they are put, and the most octets that they take.
+use Rattle.std.specs.Prelude.{ℕ, zero, suc, ◌+◌, ◌*◌, ◌/◌, List, [], ◌∷◌, ◌++◌, Option, Some, None, length, take, drop, decimal, codes}
 use Rattle.std.specs.List.{concat}
 use Rattle.ioam_data.specs.Fields.{Held}
-use Rattle.ioam_report_lines.specs.Digits.{digits_of}
+use Rattle.ioam_line.specs.Digits.{digits_of}
 use Rattle.ioam_report_lines.specs.FieldsText.{known, known_word, known_wide, known_narrow, opaque_digits}
 
 -- what is printed of a field where the type has its bit, and else nothing
@@ -50,3 +50,12 @@ snapshot_text snapshot = concat (
 -- the fields in bit order, then the filler words, then the snapshot
 unfoldable pub spaced_fields : Held → List ℕ
 spaced_fields held = bits_text held ++ fillers_text (length held.filler / 4) held.filler ++ snapshot_text held.snapshot
+
+-- the most octets of a snapshot in either form of a line
+abbrev pub snapshot_most : Option (ℕ × List ℕ) → ℕ
+snapshot_most None = 0
+snapshot_most (Some given) = 54 + 2 * length given.1
+
+-- the most octets of all fields
+abbrev pub fields_most : Held → ℕ
+fields_most held = 800 + 4 * length held.filler + snapshot_most held.snapshot

@@ -1,37 +1,37 @@
 //! The text of an element.
-ghost use Rattle.std.specs.Prelude.{◌≡◌, ◌++◌, ◌+◌, ◌*◌, ◌/◌, ◌≤◌, ◌⊎◌, [], IfSome, IsTrue, length, drop, is_ok, if◌then◌else◌, decimal, codes};
+ghost use Rattle.std.specs.Prelude.{◌≡◌, ◌++◌, ◌+◌, ◌*◌, ◌/◌, ◌≤◌, ◌⊎◌, [], IsTrue, length, is_ok, if◌then◌else◌, codes};
 ghost use Rattle.ioam_data.specs.Elements.{IsElement};
-ghost use Rattle.ioam_data.specs.Fields.{held, fields_of};
+ghost use Rattle.ioam_data.specs.Fields.{held};
 ghost use Rattle.ioam_data.specs.Kind.{words};
 ghost use Rattle.ioam_data.specs.View.{snapshot_data};
 ghost use Rattle.ioam_data.specs.Written.{most_exported};
-ghost use Rattle.ioam_report_lines.specs.Digits.{digits_of};
-ghost use Rattle.ioam_report_lines.specs.FieldsText.{element_text, known_narrow, opaque_digits};
-ghost use Rattle.ioam_report_lines.specs.Spaced.{bits_text, fillers_text, snapshot_text, spaced_fields, when_there};
-ghost use Rattle.ioam_report_lines.specs.TraceText.{line_feed};
+ghost use Rattle.ioam_report_lines.specs.FieldsText.{element_text};
+ghost use Rattle.ioam_report_lines.specs.Spaced.{bits_text, fillers_text, snapshot_text, spaced_fields, snapshot_most, fields_most};
+ghost use Rattle.ioam_report_lines.specs.TraceText.{line_feed, element_line};
 
 use crate::early::put_early_fields;
-use crate::line::Line;
-use crate::piece::append_labelled;
+use crate::room::ReportLine;
+use crate::values::{put_number, put_wide, put_wide_faces, put_wide_hop_node, put_word};
 use ioam_base::memory::NoMemory;
-use ioam_base::text::{append, settle};
+use ioam_base::text::append;
 use ioam_data::{Fields, TraceType, fields};
+use ioam_line::{LineBuffer, Piece, Value, Width};
 
-// Puts the fields of bits 0 to 11 in front of a line.
+// Puts the fields of bits 0 to 11.
 #[tactic(auto, unfolding(crate::specs::Spaced::bits_text))]
-fn put_bits(fields: &Fields<'_>, line: &mut Line)
-    requires { 448 + length line.old ≤ 1024 }
+fn put_bits<const ROOM: usize>(fields: &Fields<'_>, line: &mut LineBuffer<ROOM>)
+    requires { 800 + length line.old ≤ ROOM }
     ensures value { line.new ≡ bits_text (held fields.now) ++ line.old }
-    ensures size { length line.new ≤ 448 + length line.old }
+    ensures size { length line.new ≤ 800 + length line.old }
 {
-    line.number_field(b" buffer=", fields.buffer);
-    line.wide_field(b" wdata=", fields.wide);
-    line.wide_faces_field(fields.wide_faces);
-    line.wide_hop_node_field(fields.wide_hop_node);
-    line.word_field(b" check=", fields.check);
-    line.number_field(b" queue=", fields.queue);
-    line.word_field(b" data=", fields.short);
-    line.number_field(b" delay=", fields.delay);
+    put_number(b" buffer=", b"buffer_occupancy", fields.buffer, line);
+    put_wide(fields.wide, line);
+    put_wide_faces(fields.wide_faces, line);
+    put_wide_hop_node(fields.wide_hop_node, line);
+    put_word(b" check=", b"checksum_complement", fields.check, line);
+    put_number(b" queue=", b"queue_depth", fields.queue, line);
+    put_word(b" data=", b"namespace_data", fields.short, line);
+    put_number(b" delay=", b"transit_delay", fields.delay, line);
     put_early_fields(
         fields.hop_node,
         fields.faces,
@@ -41,26 +41,51 @@ fn put_bits(fields: &Fields<'_>, line: &mut Line)
     );
 }
 
-// Puts a snapshot in front of a line.
-fn put_snapshot(field: Option<(u32, &[u8])>, line: &mut Line)
-    requires short { IfSome field (λ given. length given.1.now ≤ 240) }
-    requires room { 503 + length line.old ≤ 1024 }
+// Puts the filler words, from the last to the first.
+fn put_fillers<const ROOM: usize>(octets: &[u8], line: &mut LineBuffer<ROOM>)
+    requires { 4 * length octets.now + length line.old ≤ ROOM }
+    ensures value { line.new ≡ fillers_text (length octets.now / 4) octets.now ++ line.old }
+    ensures size { length line.new ≤ 4 * length octets.now + length line.old }
+{
+    let mut words = octets.len() / 4;
+    'fillers: while words > 0 {
+        words -= 1;
+        let filler = &octets[4 * words..4 * words + 4];
+        line.put::<false>(Piece::Told(b" fill=", Value::Digits(filler)));
+    }
+}
+
+// Puts the opaque state snapshot (bit 22).
+fn put_snapshot<const ROOM: usize>(field: Option<(u32, &[u8])>, line: &mut LineBuffer<ROOM>)
+    requires { snapshot_most (snapshot_data field) + length line.old ≤ ROOM }
     ensures value { line.new ≡ snapshot_text (snapshot_data field.entry) ++ line.old }
-    ensures size { length line.new ≤ 503 + length line.old }
+    ensures size { length line.new ≤ snapshot_most (snapshot_data field.entry) + length line.old }
 {
     match field {
         None => {}
         Some((schema, octets)) => {
-            line.opaque(octets);
-            line.schema(schema);
+            let opaque = Value::Digits(octets);
+            line.put::<false>(Piece::Fact(b" opaque=", b"opaque_data", opaque));
+            let schema = Value::known_hex(u64::from(schema), 0xFF_FFFF, Width::Three);
+            line.put::<false>(Piece::Fact(b" schema=", b"schema_id", schema));
         }
     }
 }
 
-// Whether all fields have room in a line: there is no filler word, and the snapshot is short.
+// Puts all fields, with a space before each word.
+fn put_spaced<const ROOM: usize>(fields: &Fields<'_>, line: &mut LineBuffer<ROOM>)
+    requires { fields_most (held fields.now) + length line.old ≤ ROOM }
+    ensures value { line.new ≡ spaced_fields (held fields.now) ++ line.old }
+    ensures size { length line.new ≤ fields_most (held fields.now) + length line.old }
+{
+    put_snapshot(fields.snapshot, line);
+    put_fillers(fields.fill, line);
+    put_bits(fields, line);
+}
+
+// Whether all fields have room in the line of a packet's report: there is no filler word, and the snapshot is short.
 fn is_short(fields: &Fields<'_>) -> bool
-    ensures fill { IsTrue result → length fields.now.fill.now ≡ 0 }
-    ensures snapshot { IsTrue result → IfSome fields.now.snapshot (λ given. length given.1.now ≤ 240) }
+    ensures { IsTrue result → fields_most (held fields.now) ≤ 1400 }
 {
     if !fields.fill.is_empty() {
         return false;
@@ -69,128 +94,6 @@ fn is_short(fields: &Fields<'_>) -> bool
         None => true,
         Some((_, octets)) => octets.len() <= 240,
     }
-}
-
-// Puts all fields in front of a line, each word with a space in front.
-#[tactic(auto, unfolding(crate::specs::Spaced::spaced_fields))]
-fn put_spaced(fields: &Fields<'_>, line: &mut Line)
-    requires fill { length fields.now.fill.now ≡ 0 }
-    requires snapshot { IfSome fields.now.snapshot (λ given. length given.1.now ≤ 240) }
-    requires room { 951 + length line.old ≤ 1024 }
-    ensures value { line.new ≡ spaced_fields (held fields.now) ++ line.old }
-    ensures size { length line.new ≤ 951 + length line.old }
-{
-    put_snapshot(fields.snapshot, line);
-    put_bits(fields, line);
-}
-
-// Puts all fields in front of a line, with a space between each two words.
-fn put_words(fields: &Fields<'_>, line: &mut Line)
-    requires fill { length fields.now.fill.now ≡ 0 }
-    requires snapshot { IfSome fields.now.snapshot (λ given. length given.1.now ≤ 240) }
-    requires room { 951 + length line.old ≤ 1024 }
-    ensures value { line.new ≡ drop 1 (spaced_fields (held fields.now)) ++ line.old }
-    ensures size { length line.new ≤ 951 + length line.old }
-{
-    let before = line.octets().len();
-    put_spaced(fields, line);
-    line.drop_space(before);
-}
-
-// Appends the fields of bits 0 to 11.
-fn append_bits(fields: &Fields<'_>, out: &mut Vec<u8>) -> Result<(), NoMemory>
-    ensures { out.new.items ≡ (if is_ok result then out.old.items ++ bits_text (held fields.now) else out.old.items) }
-{
-    let mut line = Line::new();
-    put_bits(fields, &mut line);
-    append(out, line.octets())
-}
-
-// Appends the filler words.
-fn put_fillers(octets: &[u8], out: &mut Vec<u8>) -> Result<(), NoMemory>
-    ensures { out.new.items ≡ (if is_ok result then out.old.items ++ fillers_text (length octets.now / 4) octets.now else out.old.items) }
-{
-    let before = out.len();
-    let mut rest = octets;
-    'words: while rest.len() >= 4 {
-        let (filler, behind) = rest.split_at(4);
-        let answer = append_labelled(out, b" fill=", filler);
-        settle(out, before, answer)?;
-        rest = behind;
-    }
-    Ok(())
-}
-
-// Appends the schema of a snapshot.
-fn append_schema(schema: u32, out: &mut Vec<u8>) -> Result<(), NoMemory>
-    ensures { out.new.items ≡ (if is_ok result then out.old.items ++ (codes " schema=" ++ known_narrow schema) else out.old.items) }
-{
-    let mut line = Line::new();
-    line.schema(schema);
-    append(out, line.octets())
-}
-
-// Appends the data of a snapshot.
-fn append_opaque(octets: &[u8], out: &mut Vec<u8>) -> Result<(), NoMemory>
-    ensures { out.new.items ≡ (if is_ok result then out.old.items ++ (codes " opaque=" ++ opaque_digits octets.now) else out.old.items) }
-{
-    if octets.is_empty() {
-        append(out, b" opaque=-")
-    } else {
-        append_labelled(out, b" opaque=", octets)
-    }
-}
-
-// Appends a snapshot.
-fn append_snapshot(field: Option<(u32, &[u8])>, out: &mut Vec<u8>) -> Result<(), NoMemory>
-    ensures { out.new.items ≡ (if is_ok result then out.old.items ++ snapshot_text (snapshot_data field.entry) else out.old.items) }
-{
-    match field {
-        None => Ok(()),
-        Some((schema, octets)) => {
-            let before = out.len();
-            append_schema(schema, out)?;
-            let answer = append_opaque(octets, out);
-            settle(out, before, answer)
-        }
-    }
-}
-
-// Appends all fields, each word with a space in front.
-#[tactic(auto, unfolding(crate::specs::Spaced::spaced_fields))]
-fn append_spaced(fields: &Fields<'_>, out: &mut Vec<u8>) -> Result<(), NoMemory>
-    ensures { out.new.items ≡ (if is_ok result then out.old.items ++ spaced_fields (held fields.now) else out.old.items) }
-{
-    let before = out.len();
-    append_bits(fields, out)?;
-    let answer = put_fillers(fields.fill, out);
-    settle(out, before, answer)?;
-    let answer = append_snapshot(fields.snapshot, out);
-    settle(out, before, answer)
-}
-
-// Appends all fields, however many they are, with a space between each two words.
-fn append_words(fields: &Fields<'_>, out: &mut Vec<u8>) -> Result<(), NoMemory>
-    ensures { out.new.items ≡ (if is_ok result then out.old.items ++ drop 1 (spaced_fields (held fields.now)) else out.old.items) }
-{
-    let before = out.len();
-    append_spaced(fields, out)?;
-    if before < out.len() {
-        let _space = out.remove(before);
-    }
-    Ok(())
-}
-
-// Appends all fields with a space between each two words.
-fn put_joined(fields: &Fields<'_>, out: &mut Vec<u8>) -> Result<(), NoMemory>
-    ensures { out.new.items ≡ (if is_ok result then out.old.items ++ drop 1 (spaced_fields (held fields.now)) else out.old.items) }
-{
-    if !is_short(fields) {
-        return append_words(fields, out);
-    }
-    let mut line = Line::new();
-    put_words(fields, &mut line);
-    append(out, line.octets())
 }
 
 /// Appends the text of an element: its fields in bit order, filler words and the snapshot, with one
@@ -208,64 +111,62 @@ pub fn put_fields(
     if element.is_empty() {
         return Ok(());
     }
-    put_joined(&fields(kind, node_len, element), out)
+    let mut line = LineBuffer::<8192>::new();
+    put_spaced(&fields(kind, node_len, element), &mut line);
+    let (_space, words) = line.octets().split_at(1);
+    append(out, words)
 }
 
-/// Puts the text of an element in front of a line, as [`put_fields`] appends it. The element has no words but
-/// those of the fields of its type and a snapshot, [`MOST_EXPORTED`](ioam_data::MOST_EXPORTED) octets in all at most, as that of an export record has
-/// (RFC 9326 section 3.2), or it is empty, which gives an empty text.
-pub fn put_element(kind: TraceType, element: &[u8], line: &mut Line)
+/// Puts a space and the text of an element, as [`put_fields`] appends it. The element has no words but those of
+/// the fields of its type and a snapshot, [`MOST_EXPORTED`](ioam_data::MOST_EXPORTED) octets in all at most, as that
+/// of an export record has (RFC 9326 section 3.2), or it is empty, which gives an empty text.
+pub fn put_element(kind: TraceType, element: &[u8], line: &mut ReportLine)
     requires element { (element.now ≡ []) ⊎ IsElement kind (words kind) element.now }
     requires short { length element.now ≤ most_exported }
-    requires room { 951 + length line.old ≤ 1024 }
-    ensures value { line.new ≡ element_text kind (words kind) element.now ++ line.old }
-    ensures size { length line.new ≤ 951 + length line.old }
+    requires room { 1350 + length line.old ≤ 1536 }
+    ensures value { line.new ≡ (codes " " ++ element_text kind (words kind) element.now) ++ line.old }
+    ensures size { length line.new ≤ 1350 + length line.old }
 {
     if element.is_empty() {
+        line.put::<false>(Piece::Said(b" "));
         return;
     }
-    put_words(&fields(kind, kind.words(), element), line);
+    put_spaced(&fields(kind, kind.words(), element), line);
 }
 
-// Puts the line of an element together.
-fn put_short_line(fields: &Fields<'_>, line: &mut Line)
-    requires fill { length fields.now.fill.now ≡ 0 }
-    requires snapshot { IfSome fields.now.snapshot (λ given. length given.1.now ≤ 240) }
-    ensures { line.new ≡ codes "    " ++ drop 1 (spaced_fields (held fields.now)) ++ line_feed }
-{
-    line.clear();
-    line.put(b"\n");
-    put_words(fields, line);
-    line.put(b"    ");
-}
-
-// Appends the line of an element, however long it is.
-fn append_long_line(fields: &Fields<'_>, out: &mut Vec<u8>) -> Result<(), NoMemory>
-    ensures { out.new.items ≡ (if is_ok result
-        then out.old.items ++ (codes "    " ++ drop 1 (spaced_fields (held fields.now)) ++ line_feed)
-        else out.old.items) }
-{
-    let before = out.len();
-    append(out, b"    ")?;
-    let answer = append_words(fields, out);
-    settle(out, before, answer)?;
-    let answer = append(out, b"\n");
-    settle(out, before, answer)
-}
-
-/// Appends the line of fields, four spaces in front. The line that is lent holds anything before and after.
-pub(crate) fn put_fields_line(
+// Appends the line of fields.
+fn append_fields<const ROOM: usize>(
     fields: &Fields<'_>,
-    line: &mut Line,
+    line: &mut LineBuffer<ROOM>,
     out: &mut Vec<u8>,
 ) -> Result<(), NoMemory>
+    requires { fields_most (held fields.now) + 24 ≤ ROOM }
     ensures { out.new.items ≡ (if is_ok result
-        then out.old.items ++ (codes "    " ++ drop 1 (spaced_fields (held fields.now)) ++ line_feed)
+        then out.old.items ++ (codes "   " ++ (spaced_fields (held fields.now) ++ line_feed))
         else out.old.items) }
 {
-    if !is_short(fields) {
-        return append_long_line(fields, out);
+    line.end::<false>();
+    put_spaced(fields, line);
+    // Each word has a space before it, so these are four.
+    line.put::<false>(Piece::Said(b"   "));
+    line.finish::<false>(b"element", out)
+}
+
+/// Appends the line of an element: four spaces and its fields.
+pub fn put_element_line(
+    kind: TraceType,
+    node_len: u8,
+    element: &[u8],
+    line: &mut ReportLine,
+    out: &mut Vec<u8>,
+) -> Result<(), NoMemory>
+    requires { IsElement kind node_len element.now }
+    ensures { out.new.items ≡ (if is_ok result then out.old.items ++ element_line kind node_len element.now else out.old.items) }
+{
+    let fields = fields(kind, node_len, element);
+    if is_short(&fields) {
+        append_fields(&fields, line, out)
+    } else {
+        append_fields(&fields, &mut LineBuffer::<8192>::new(), out)
     }
-    put_short_line(fields, line);
-    append(out, line.octets())
 }

@@ -6,12 +6,14 @@ ghost use Rattle.ioam_ip.specs.Rewriting.{options_in};
 ghost use Rattle.ioam_ip.specs.Spot.{item_in, spot_end};
 ghost use Rattle.ioam_report_lines.specs.HopText.{is_changing_trace, changing_lines, hop_traces_text};
 
-use crate::lines::put_trace_lines;
+use crate::lines::put_trace;
+use crate::room::ReportLine;
 use ioam_base::memory::NoMemory;
 use ioam_base::text::settle;
 use ioam_data::option_type::{IN_FRONT, holds_trace};
 use ioam_ip::option_type::IOAM_CHANGING;
 use ioam_ip::{OptionSpot, hop_header, next_option};
+use ioam_line::LineBuffer;
 
 // Whether an option is a trace that nodes on the way fill.
 fn is_changing_trace(kind: u8, body: &[u8]) -> bool
@@ -22,7 +24,12 @@ fn is_changing_trace(kind: u8, body: &[u8]) -> bool
 }
 
 // Appends the lines of an option, where it is such a trace.
-fn put_option(head: &[u8], spot: &OptionSpot, out: &mut Vec<u8>) -> Result<(), NoMemory>
+fn put_option(
+    head: &[u8],
+    spot: &OptionSpot,
+    line: &mut ReportLine,
+    out: &mut Vec<u8>,
+) -> Result<(), NoMemory>
     requires { spot_end spot.now ≤ length head.now }
     ensures { out.new.items ≡ (if is_ok result
         then out.old.items ++ changing_lines (item_in head.now spot.now ∷ [])
@@ -30,7 +37,7 @@ fn put_option(head: &[u8], spot: &OptionSpot, out: &mut Vec<u8>) -> Result<(), N
 {
     let body = &head[spot.at + 2..spot.at + 2 + spot.size];
     if is_changing_trace(spot.kind, body) {
-        put_trace_lines(&body[IN_FRONT..], out)
+        put_trace(&body[IN_FRONT..], line, out)
     } else {
         Ok(())
     }
@@ -44,9 +51,10 @@ fn put_options(head: &[u8], out: &mut Vec<u8>) -> Result<(), NoMemory>
         else out.old.items) }
 {
     let before = out.len();
+    let mut line = LineBuffer::new();
     let mut at = 2;
     'options: while let Some(spot) = next_option(head, at) {
-        let answer = put_option(head, &spot, out);
+        let answer = put_option(head, &spot, &mut line, out);
         settle(out, before, answer)?;
         at = spot.at + 2 + spot.size;
     }

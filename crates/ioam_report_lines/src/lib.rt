@@ -2,23 +2,17 @@
 //! ends with a line feed.
 #![tactic(auto)]
 
-mod digits;
 mod early;
 mod elements;
 mod hop_traces;
-mod line;
 mod lines;
 mod listed;
-mod piece;
-mod put;
+mod room;
 mod traces;
 mod values;
 
-pub use elements::{put_element, put_fields};
+pub use elements::{put_element, put_element_line, put_fields};
 pub use hop_traces::put_hop_traces;
-pub use line::Line;
-pub use lines::{put_element_line, put_element_lines, put_trace_lines};
-pub use piece::Piece;
-pub use put::put_pieces;
+pub use lines::{put_element_lines, put_trace_lines, put_trace_type};
+pub use room::ReportLine;
 pub use traces::put_traces;
-pub use values::number;

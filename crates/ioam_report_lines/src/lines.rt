@@ -1,106 +1,90 @@
 //! The lines of a trace.
-ghost use Rattle.std.specs.Prelude.{◌≡◌, ◌++◌, ◌*◌, ◌/◌, ◌<◌, [], IsTrue, length, is_ok, if◌then◌else◌};
+ghost use Rattle.std.specs.Prelude.{◌≡◌, ◌++◌, ◌+◌, ◌*◌, ◌/◌, ◌<◌, ◌≤◌, IsTrue, length, drop, decimal, codes, is_ok, if◌then◌else◌};
+ghost use Rattle.std.specs.Int.{w32, to_be_bytes};
 ghost use Rattle.std.specs.List.{flat_map};
 ghost use Rattle.ioam_data.specs.Elements.{IsElement};
+ghost use Rattle.ioam_line.specs.Digits.{digits_of};
 ghost use Rattle.ioam_trace.specs.Read.{elements_in};
 ghost use Rattle.ioam_report_lines.specs.Early.{IsEarly};
-ghost use Rattle.ioam_report_lines.specs.TraceText.{element_line, first_line, whole_lines, bad_line, trace_lines, IsTraceText};
+ghost use Rattle.ioam_report_lines.specs.TraceText.{line_feed, element_line, first_line, whole_lines, fault_text, bad_line, trace_lines, IsTraceText};
 
-use crate::early::{is_early, put_early_line};
-use crate::elements::put_fields_line;
-use crate::line::Line;
-use crate::piece::Piece;
-use crate::put::put_pieces;
+use crate::early::{append_early, is_early};
+use crate::elements::put_element_line;
+use crate::room::ReportLine;
 use ioam_base::memory::NoMemory;
-use ioam_base::text::{append, settle};
-use ioam_data::{TraceType, fields};
+use ioam_base::text::settle;
+use ioam_data::TraceType;
+use ioam_line::{LineBuffer, Piece, Value, Width};
 use ioam_trace::{Trace, TraceFault, TraceHead};
 
-// Appends the line of a fault.
-fn put_bad_line(fault: TraceFault, out: &mut Vec<u8>) -> Result<(), NoMemory>
-    ensures { out.new.items ≡ (if is_ok result then out.old.items ++ bad_line fault else out.old.items) }
+// Puts the name of a fault, and a number of it.
+fn put_named_fault<'a>(name: &'a [u8], key: &'a [u8], number: u64, line: &mut ReportLine)
+    requires names { length name.now + length key.now ≤ 24 }
+    requires room { 100 + length line.old ≤ 1536 }
+    ensures value { line.new ≡ (codes "  trace bad " ++ name.now) ++ ((codes " " ++ decimal number) ++ line.old) }
+    ensures size { length line.new ≤ 100 + length line.old }
+{
+    line.put::<false>(Piece::Fact(b" ", key, Value::Number(number)));
+    line.put::<false>(Piece::Fact(b"  trace bad ", b"fault", Value::Word(name)));
+}
+
+// Puts the words of a fault.
+fn put_fault(fault: TraceFault, line: &mut ReportLine)
+    requires { length line.old ≤ 2 }
+    ensures value { line.new ≡ (codes "  trace bad " ++ fault_text fault) ++ line.old }
+    ensures size { length line.new ≤ 200 }
 {
     match fault {
-        TraceFault::Short { have } => put_pieces(
-            &[
-                Piece::Number(b"  trace bad short ", have as u64),
-                Piece::Text(b"\n"),
-            ],
-            out,
-        ),
-        TraceFault::Space { remaining } => put_pieces(
-            &[
-                Piece::Number(b"  trace bad space ", u64::from(remaining)),
-                Piece::Text(b"\n"),
-            ],
-            out,
-        ),
-        TraceFault::NodeLen { found, wanted } => put_pieces(
-            &[
-                Piece::Number(b"  trace bad node-len ", u64::from(found)),
-                Piece::Number(b" ", u64::from(wanted)),
-                Piece::Text(b"\n"),
-            ],
-            out,
-        ),
-        TraceFault::Element { at } => put_pieces(
-            &[
-                Piece::Number(b"  trace bad element ", at as u64),
-                Piece::Text(b"\n"),
-            ],
-            out,
-        ),
+        TraceFault::Short { have } => put_named_fault(b"short", b"have", have as u64, line),
+        TraceFault::Space { remaining } => {
+            put_named_fault(b"space", b"remaining_len", u64::from(remaining), line);
+        }
+        TraceFault::NodeLen { found, wanted } => {
+            let wanted = Value::Number(u64::from(wanted));
+            line.put::<false>(Piece::Fact(b" ", b"wanted_words", wanted));
+            put_named_fault(b"node-len", b"node_len", u64::from(found), line);
+        }
+        TraceFault::Element { at } => put_named_fault(b"element", b"offset", at as u64, line),
     }
 }
 
-// Puts the line of a header together that so many elements follow.
-fn put_first_line(head: &TraceHead, count: u64, line: &mut Line)
-    requires { line.old ≡ [] }
-    ensures { line.new ≡ first_line head.now.namespace.0 head.now.kind (head.now.flags / 8) count }
+// Appends the line of a fault.
+fn put_bad_line(fault: TraceFault, line: &mut ReportLine, out: &mut Vec<u8>) -> Result<(), NoMemory>
+    ensures { out.new.items ≡ (if is_ok result then out.old.items ++ bad_line fault else out.old.items) }
+{
+    line.end::<false>();
+    put_fault(fault, line);
+    line.finish::<false>(b"trace", out)
+}
+
+/// Puts the six digits of a type after a label.
+#[inline]
+pub fn put_trace_type(label: &[u8], kind: TraceType, line: &mut ReportLine)
+    requires label { length label.now ≤ 10 }
+    requires room { 40 + length line.old ≤ 1536 }
+    ensures value { line.new ≡ (label.now ++ digits_of (drop 1 (to_be_bytes w32 kind))) ++ line.old }
+    ensures size { length line.new ≤ 40 + length line.old }
+{
+    let digits = Value::Hex(u64::from(kind.bits()), Width::Three);
+    line.put::<false>(Piece::Fact(label, b"trace_type", digits));
+}
+
+// Puts the words of a header that `count` elements follow.
+fn put_first_line(head: &TraceHead, count: u64, line: &mut ReportLine)
+    requires { line.old ≡ line_feed }
+    ensures value { line.new ≡ first_line head.now.namespace.0 head.now.kind (head.now.flags / 8) count }
+    ensures size { length line.new ≤ 200 }
 {
     let label: &[u8] = if head.has_overflow() {
         b" overflow "
     } else {
         b" whole "
     };
-    line.put(b"\n");
-    line.number(count);
-    line.put(label);
-    line.narrow(head.kind.bits());
-    line.put(b" ");
-    line.number(u64::from(head.namespace.0));
-    line.put(b"  trace ");
-}
-
-// Appends the line of an element of bits 0 to 3 alone; the line that is lent holds anything before and after.
-fn append_early_line(
-    kind: TraceType,
-    node_len: u8,
-    element: &[u8],
-    line: &mut Line,
-    out: &mut Vec<u8>,
-) -> Result<(), NoMemory>
-    requires element { IsElement kind node_len element.now }
-    requires early { IsEarly kind node_len }
-    ensures { out.new.items ≡ (if is_ok result then out.old.items ++ element_line kind node_len element.now else out.old.items) }
-{
-    line.clear();
-    put_early_line(kind, node_len, element, line);
-    append(out, line.octets())
-}
-
-// Appends the line of an element.
-fn append_any_line(
-    kind: TraceType,
-    node_len: u8,
-    element: &[u8],
-    line: &mut Line,
-    out: &mut Vec<u8>,
-) -> Result<(), NoMemory>
-    requires { IsElement kind node_len element.now }
-    ensures { out.new.items ≡ (if is_ok result then out.old.items ++ element_line kind node_len element.now else out.old.items) }
-{
-    put_fields_line(&fields(kind, node_len, element), line, out)
+    line.put::<false>(Piece::Fact(b"", b"elements", Value::Number(count)));
+    line.put::<false>(Piece::Said(label));
+    put_trace_type(b" ", head.kind, line);
+    let namespace = Value::Number(u64::from(head.namespace.0));
+    line.put::<false>(Piece::Fact(b"  trace ", b"namespace", namespace));
 }
 
 // Appends the line of an element, which may be known to be one of bits 0 to 3 alone.
@@ -109,7 +93,7 @@ fn put_line(
     node_len: u8,
     element: &[u8],
     early: bool,
-    line: &mut Line,
+    line: &mut ReportLine,
     out: &mut Vec<u8>,
 ) -> Result<(), NoMemory>
     requires element { IsElement kind node_len element.now }
@@ -117,24 +101,10 @@ fn put_line(
     ensures { out.new.items ≡ (if is_ok result then out.old.items ++ element_line kind node_len element.now else out.old.items) }
 {
     if early {
-        append_early_line(kind, node_len, element, line, out)
+        append_early(kind, node_len, element, line, out)
     } else {
-        append_any_line(kind, node_len, element, line, out)
+        put_element_line(kind, node_len, element, line, out)
     }
-}
-
-/// Appends the line of an element of a trace: four spaces and its fields. Without memory nothing is
-/// appended.
-pub fn put_element_line(
-    kind: TraceType,
-    node_len: u8,
-    element: &[u8],
-    out: &mut Vec<u8>,
-) -> Result<(), NoMemory>
-    requires { IsElement kind node_len element.now }
-    ensures { out.new.items ≡ (if is_ok result then out.old.items ++ element_line kind node_len element.now else out.old.items) }
-{
-    append_any_line(kind, node_len, element, &mut Line::new(), out)
 }
 
 // How many elements a trace has.
@@ -174,7 +144,7 @@ fn count(trace: &Trace<'_>, early: bool) -> u64
 fn put_lines(
     trace: &Trace<'_>,
     early: bool,
-    line: &mut Line,
+    line: &mut ReportLine,
     out: &mut Vec<u8>,
 ) -> Result<(), NoMemory>
     requires { IsTrue early → IsEarly trace.now.head.kind trace.now.head.node_len }
@@ -193,32 +163,54 @@ fn put_lines(
 
 /// Appends the lines of the elements of a trace, in visit order, the oldest first. Without memory nothing
 /// is appended.
-pub fn put_element_lines(trace: &Trace<'_>, out: &mut Vec<u8>) -> Result<(), NoMemory>
+pub fn put_element_lines(
+    trace: &Trace<'_>,
+    line: &mut ReportLine,
+    out: &mut Vec<u8>,
+) -> Result<(), NoMemory>
     ensures { out.new.items ≡ (if is_ok result
         then out.old.items ++ flat_map (element_line trace.now.head.kind trace.now.head.node_len) (elements_in trace.now)
         else out.old.items) }
 {
     let early = is_early(trace.head.kind, trace.head.node_len);
-    put_lines(trace, early, &mut Line::new(), out)
+    put_lines(trace, early, line, out)
 }
 
 // Appends the lines of a trace that was read.
-fn put_whole_lines(trace: &Trace<'_>, out: &mut Vec<u8>) -> Result<(), NoMemory>
+fn put_whole_lines(
+    trace: &Trace<'_>,
+    line: &mut ReportLine,
+    out: &mut Vec<u8>,
+) -> Result<(), NoMemory>
     ensures { out.new.items ≡ (if is_ok result
         then out.old.items ++ whole_lines trace.now.head.namespace.0 trace.now.head.kind (trace.now.head.flags / 8) trace.now.head.node_len (elements_in trace.now)
         else out.old.items) }
 {
     let before = out.len();
     let early = is_early(trace.head.kind, trace.head.node_len);
-    let mut line = Line::new();
-    put_first_line(&trace.head, count(trace, early), &mut line);
-    append(out, line.octets())?;
-    let answer = put_lines(trace, early, &mut line, out);
+    line.end::<false>();
+    put_first_line(&trace.head, count(trace, early), line);
+    line.finish::<false>(b"trace", out)?;
+    let answer = put_lines(trace, early, line, out);
     settle(out, before, answer)
 }
 
-/// Appends the lines for the octets behind the IOAM-Option-Type of a trace option (RFC 9197 section
-/// 4.4.1). A trace has a line with its namespace, its type, `whole` or where Overflow is set
+/// Appends the lines of [`put_trace_lines`], each put together in a buffer that holds anything before and after.
+pub(crate) fn put_trace(
+    octets: &[u8],
+    line: &mut ReportLine,
+    out: &mut Vec<u8>,
+) -> Result<(), NoMemory>
+    ensures { out.new.items ≡ (if is_ok result then out.old.items ++ trace_lines octets.now else out.old.items) }
+{
+    match Trace::read(octets) {
+        Ok(trace) => put_whole_lines(&trace, line, out),
+        Err(fault) => put_bad_line(fault, line, out),
+    }
+}
+
+/// Appends the lines for the octets after the IOAM-Option-Type of a trace option (RFC 9197 section
+/// 4.4.1). A trace has a line with its namespace, its type, `whole` or with Overflow set
 /// `overflow`, and the count of its elements, and then a line for each element in visit order, the
 /// oldest first. Octets that are no trace have one line with their first fault. Without memory
 /// nothing is appended.
@@ -227,8 +219,5 @@ pub fn put_trace_lines(octets: &[u8], out: &mut Vec<u8>) -> Result<(), NoMemory>
     // The text is that of the header and the elements, or of the fault, that the octets have.
     ensures is_text { IsTraceText octets.now (trace_lines octets.now) }
 {
-    match Trace::read(octets) {
-        Ok(trace) => put_whole_lines(&trace, out),
-        Err(fault) => put_bad_line(fault, out),
-    }
+    put_trace(octets, &mut LineBuffer::new(), out)
 }

@@ -6,7 +6,8 @@ ghost use Rattle.ioam_ip.specs.Options.{IsFilled};
 ghost use Rattle.ioam_ip.specs.OptionsLeft.{item_of, options_from};
 ghost use Rattle.ioam_report_lines.specs.TracesText.{is_trace, option_lines, traces_in};
 
-use crate::lines::put_trace_lines;
+use crate::lines::put_trace;
+use crate::room::ReportLine;
 use ioam_base::memory::NoMemory;
 use ioam_base::text::settle;
 use ioam_data::option_type::{IN_FRONT, holds_trace};
@@ -37,7 +38,7 @@ fn count_options(head: &[u8]) -> usize
 }
 
 // Appends the lines of the traces of an options header.
-fn put_options(head: &[u8], out: &mut Vec<u8>) -> Result<(), NoMemory>
+fn put_options(head: &[u8], line: &mut ReportLine, out: &mut Vec<u8>) -> Result<(), NoMemory>
     requires { IsFilled head.now }
     ensures { out.new.items ≡ (if is_ok result
         then out.old.items ++ flat_map option_lines (filter is_trace (options_from (length head.now) head.now 2))
@@ -46,7 +47,7 @@ fn put_options(head: &[u8], out: &mut Vec<u8>) -> Result<(), NoMemory>
     let before = out.len();
     for option in options(head) {
         if is_trace(&option) {
-            let answer = put_trace_lines(&option.body[IN_FRONT..], out);
+            let answer = put_trace(&option.body[IN_FRONT..], line, out);
             settle(out, before, answer)?;
         }
     }
@@ -66,14 +67,19 @@ pub(crate) fn count_in(packet: &[u8], head: &Head) -> usize
 }
 
 /// Appends the lines of the traces of a header of the packet.
-pub(crate) fn put_in(packet: &[u8], head: &Head, out: &mut Vec<u8>) -> Result<(), NoMemory>
+pub(crate) fn put_in(
+    packet: &[u8],
+    head: &Head,
+    line: &mut ReportLine,
+    out: &mut Vec<u8>,
+) -> Result<(), NoMemory>
     requires { HeadFits packet.now head.now }
     ensures { out.new.items ≡ (if is_ok result
         then out.old.items ++ flat_map option_lines (traces_in packet.now head.now)
         else out.old.items) }
 {
     if head.is_options() {
-        put_options(&packet[head.range.start..head.range.end], out)
+        put_options(&packet[head.range.start..head.range.end], line, out)
     } else {
         Ok(())
     }

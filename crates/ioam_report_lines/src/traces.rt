@@ -1,17 +1,18 @@
 //! The traces of a packet.
-ghost use Rattle.std.specs.Prelude.{◌≡◌, ◌++◌, ◌+◌, length, is_ok, if◌then◌else◌};
+ghost use Rattle.std.specs.Prelude.{◌≡◌, ◌++◌, ◌+◌, length, decimal, codes, is_ok, if◌then◌else◌};
 ghost use Rattle.std.specs.List.{flat_map};
 ghost use Rattle.ioam_ip.specs.Packet.{IsPacket};
 ghost use Rattle.ioam_ip.specs.Chain.{IsSound};
+ghost use Rattle.ioam_report_lines.specs.TraceText.{line_feed};
 ghost use Rattle.ioam_report_lines.specs.TracesText.{option_lines, traces_of, traces_text, TracesText};
 
 use crate::listed::{count_in, put_in};
-use crate::piece::Piece;
-use crate::put::put_pieces;
+use crate::room::ReportLine;
 use ioam_base::memory::NoMemory;
 use ioam_base::text::settle;
 use ioam_ip::heads;
 use ioam_ip::next_header::IPV6;
+use ioam_line::{LineBuffer, Piece, Value};
 
 // How many traces of a packet are listed.
 fn count_traces(packet: &[u8]) -> usize
@@ -30,7 +31,7 @@ fn count_traces(packet: &[u8]) -> usize
 }
 
 // Appends the lines of the traces of a packet.
-fn put_listed(packet: &[u8], out: &mut Vec<u8>) -> Result<(), NoMemory>
+fn put_listed(packet: &[u8], line: &mut ReportLine, out: &mut Vec<u8>) -> Result<(), NoMemory>
     requires packet { IsPacket packet.now }
     requires sound { IsSound packet.now }
     ensures { out.new.items ≡ (if is_ok result then out.old.items ++ flat_map option_lines (traces_of packet.now) else out.old.items) }
@@ -40,10 +41,21 @@ fn put_listed(packet: &[u8], out: &mut Vec<u8>) -> Result<(), NoMemory>
         if head.value == IPV6 {
             return Ok(());
         }
-        let answer = put_in(packet, &head, out);
+        let answer = put_in(packet, &head, line, out);
         settle(out, before, answer)?;
     }
     Ok(())
+}
+
+// Appends ` traces COUNT` and a line feed.
+fn put_count(count: u64, line: &mut ReportLine, out: &mut Vec<u8>) -> Result<(), NoMemory>
+    ensures { out.new.items ≡ (if is_ok result
+        then out.old.items ++ (codes " traces " ++ decimal count ++ line_feed)
+        else out.old.items) }
+{
+    line.end::<false>();
+    line.put::<false>(Piece::Fact(b" traces ", b"traces", Value::Number(count)));
+    line.finish::<false>(b"packet", out)
 }
 
 /// Appends ` traces COUNT`, a line feed, and the lines of each pre-allocated trace of a packet: those
@@ -59,11 +71,8 @@ pub fn put_traces(packet: &[u8], out: &mut Vec<u8>) -> Result<(), NoMemory>
     ensures is_text { TracesText packet.now (traces_text packet.now) }
 {
     let before = out.len();
-    let count = count_traces(packet) as u64;
-    put_pieces(
-        &[Piece::Number(b" traces ", count), Piece::Text(b"\n")],
-        out,
-    )?;
-    let answer = put_listed(packet, out);
+    let mut line = LineBuffer::new();
+    put_count(count_traces(packet) as u64, &mut line, out)?;
+    let answer = put_listed(packet, &mut line, out);
     settle(out, before, answer)
 }

@@ -1,247 +1,182 @@
-//! The fields of an element, put in front of a line, and as pieces.
-ghost use Rattle.std.specs.Prelude.{◌≡◌, ◌++◌, ◌+◌, ◌*◌, ◌≤◌, length, decimal, codes};
-ghost use Rattle.ioam_data.specs.View.{snapshot_data};
-ghost use Rattle.ioam_report_lines.specs.Piece.{piece_text};
-ghost use Rattle.ioam_report_lines.specs.Spaced.{when_there, snapshot_text};
-ghost use Rattle.ioam_report_lines.specs.FieldsText.{known, known_word, known_wide, known_narrow, opaque_digits};
+//! The fields of an element, each put before what a line holds.
+ghost use Rattle.std.specs.Prelude.{◌≡◌, ◌++◌, ◌+◌, ◌≤◌, length, decimal, codes};
+ghost use Rattle.ioam_report_lines.specs.Spaced.{when_there};
+ghost use Rattle.ioam_report_lines.specs.FieldsText.{known, known_word, known_wide};
 
-use crate::line::Line;
-use crate::piece::Piece;
-use crate::put::{eight_octets, four_octets};
+use ioam_line::{LineBuffer, Piece, Value, Width};
 
-/// A field of 32 bits in decimal digits, `-` where it is all ones, and nothing where it isn't there.
-pub fn number<'a>(label: &'a [u8], field: Option<u32>) -> Piece<'a>
-    ensures { piece_text result ≡ when_there field (λ value. label.now ++ known 4294967295 value) }
+// Puts a number, or `-` if it is `ones`, the number that all ones make.
+#[inline(always)]
+fn put_known<'a, const ROOM: usize>(
+    label: &'a [u8],
+    key: &'a [u8],
+    number: u64,
+    ones: u64,
+    line: &mut LineBuffer<ROOM>,
+)
+    requires names { length label.now + length key.now ≤ 26 }
+    requires room { 50 + length line.old ≤ ROOM }
+    ensures value { line.new ≡ (label.now ++ known ones number) ++ line.old }
+    ensures size { length line.new ≤ 50 + length line.old }
+{
+    line.put::<false>(Piece::Fact(label, key, Value::known(number, ones)));
+}
+
+// Puts a hop limit, which is a number always.
+#[inline(always)]
+fn put_hop<'a, const ROOM: usize>(
+    label: &'a [u8],
+    key: &'a [u8],
+    hop: u8,
+    line: &mut LineBuffer<ROOM>,
+)
+    requires names { length label.now + length key.now ≤ 26 }
+    requires room { 50 + length line.old ≤ ROOM }
+    ensures value { line.new ≡ (label.now ++ decimal hop) ++ line.old }
+    ensures size { length line.new ≤ 50 + length line.old }
+{
+    line.put::<false>(Piece::Fact(label, key, Value::Number(u64::from(hop))));
+}
+
+/// Puts a field of 32 bits in decimal digits.
+#[inline(always)]
+pub(crate) fn put_number<'a, const ROOM: usize>(
+    label: &'a [u8],
+    key: &'a [u8],
+    field: Option<u32>,
+    line: &mut LineBuffer<ROOM>,
+)
+    requires names { length label.now + length key.now ≤ 26 }
+    requires room { 50 + length line.old ≤ ROOM }
+    ensures value { line.new ≡ when_there field (λ value. label.now ++ known 4294967295 value) ++ line.old }
+    ensures size { length line.new ≤ 50 + length line.old }
 {
     match field {
-        None => Piece::Nothing,
-        Some(0xFFFF_FFFF) => Piece::Dash(label),
-        Some(value) => Piece::Number(label, u64::from(value)),
+        None => {}
+        Some(value) => put_known(label, key, u64::from(value), 0xFFFF_FFFF, line),
     }
 }
 
-impl Line {
-    // Puts a number in decimal digits in front, or `-` where it is all ones.
-    #[inline]
-    fn known(&mut self, number: u64, ones: u64)
-        requires { 20 + length self.old ≤ 1024 }
-        ensures value { self.new ≡ known ones number ++ self.old }
-        ensures size { length self.new ≤ 20 + length self.old }
-    {
-        if number == ones {
-            self.put(b"-");
-        } else {
-            self.number(number);
+/// Puts a field of 32 bits in hexadecimal digits.
+#[inline]
+pub(crate) fn put_word<'a, const ROOM: usize>(
+    label: &'a [u8],
+    key: &'a [u8],
+    field: Option<u32>,
+    line: &mut LineBuffer<ROOM>,
+)
+    requires names { length label.now + length key.now ≤ 26 }
+    requires room { 50 + length line.old ≤ ROOM }
+    ensures value { line.new ≡ when_there field (λ value. label.now ++ known_word value) ++ line.old }
+    ensures size { length line.new ≤ 50 + length line.old }
+{
+    match field {
+        None => {}
+        Some(value) => {
+            let value = Value::known_hex(u64::from(value), 0xFFFF_FFFF, Width::Four);
+            line.put::<false>(Piece::Fact(label, key, value));
         }
     }
+}
 
-    // Puts a label and a number behind it.
-    #[inline]
-    fn labelled(&mut self, label: &[u8], number: u64, ones: u64)
-        requires label { length label.now ≤ 8 }
-        requires room { 28 + length self.old ≤ 1024 }
-        ensures value { self.new ≡ (label.now ++ known ones number) ++ self.old }
-        ensures size { length self.new ≤ 28 + length self.old }
-    {
-        self.known(number, ones);
-        self.put(label);
-    }
-
-    // Puts a label and a hop limit behind it, a number always.
-    #[inline]
-    fn hop(&mut self, label: &[u8], hop: u8)
-        requires label { length label.now ≤ 8 }
-        requires room { 28 + length self.old ≤ 1024 }
-        ensures value { self.new ≡ (label.now ++ decimal hop) ++ self.old }
-        ensures size { length self.new ≤ 28 + length self.old }
-    {
-        self.number(u64::from(hop));
-        self.put(label);
-    }
-
-    // A field of 32 bits in decimal digits.
-    #[inline]
-    pub(crate) fn number_field(&mut self, label: &[u8], field: Option<u32>)
-        requires label { length label.now ≤ 8 }
-        requires room { 28 + length self.old ≤ 1024 }
-        ensures value { self.new ≡ when_there field (λ value. label.now ++ known 4294967295 value) ++ self.old }
-        ensures size { length self.new ≤ 28 + length self.old }
-    {
-        match field {
-            None => {}
-            Some(value) => self.labelled(label, u64::from(value), 0xFFFF_FFFF),
+/// Puts the namespace data of 64 bits (bit 10).
+#[inline]
+pub(crate) fn put_wide<const ROOM: usize>(field: Option<u64>, line: &mut LineBuffer<ROOM>)
+    requires { 50 + length line.old ≤ ROOM }
+    ensures value { line.new ≡ when_there field (λ value. codes " wdata=" ++ known_wide value) ++ line.old }
+    ensures size { length line.new ≤ 50 + length line.old }
+{
+    match field {
+        None => {}
+        Some(value) => {
+            let value = Value::known_hex(value, 0xFFFF_FFFF_FFFF_FFFF, Width::Eight);
+            line.put::<false>(Piece::Fact(b" wdata=", b"namespace_data_wide", value));
         }
     }
+}
 
-    // A number of 32 bits in hexadecimal digits, or `-` where it is all ones.
-    #[inline]
-    fn known_word(&mut self, value: u32)
-        requires { 20 + length self.old ≤ 1024 }
-        ensures value { self.new ≡ known_word value ++ self.old }
-        ensures size { length self.new ≤ 20 + length self.old }
-    {
-        if value == 0xFFFF_FFFF {
-            self.put(b"-");
-        } else {
-            self.digits(&four_octets(value));
+/// Puts hop limit and node id (bit 0).
+#[inline(always)]
+pub(crate) fn put_hop_node<const ROOM: usize>(field: Option<(u8, u32)>, line: &mut LineBuffer<ROOM>)
+    requires { 100 + length line.old ≤ ROOM }
+    ensures value { line.new ≡ when_there field (λ value. codes " hop=" ++ decimal value.0)
+        ++ (when_there field (λ value. codes " node=" ++ known 16777215 value.1) ++ line.old) }
+    ensures size { length line.new ≤ 100 + length line.old }
+{
+    match field {
+        None => {}
+        Some((hop, node)) => {
+            put_known(b" node=", b"node_id", u64::from(node), 0xFF_FFFF, line);
+            put_hop(b" hop=", b"hop_limit", hop, line);
         }
     }
+}
 
-    // A field of 32 bits in hexadecimal digits.
-    #[inline]
-    pub(crate) fn word_field(&mut self, label: &[u8], field: Option<u32>)
-        requires label { length label.now ≤ 8 }
-        requires room { 28 + length self.old ≤ 1024 }
-        ensures value { self.new ≡ when_there field (λ value. label.now ++ known_word value) ++ self.old }
-        ensures size { length self.new ≤ 28 + length self.old }
-    {
-        match field {
-            None => {}
-            Some(value) => {
-                self.known_word(value);
-                self.put(label);
-            }
+/// Puts ingress and egress interface (bit 1).
+#[inline(always)]
+pub(crate) fn put_faces<const ROOM: usize>(field: Option<(u16, u16)>, line: &mut LineBuffer<ROOM>)
+    requires { 100 + length line.old ≤ ROOM }
+    ensures value { line.new ≡ when_there field (λ value. codes " in=" ++ known 65535 value.0)
+        ++ (when_there field (λ value. codes " out=" ++ known 65535 value.1) ++ line.old) }
+    ensures size { length line.new ≤ 100 + length line.old }
+{
+    match field {
+        None => {}
+        Some((ingress, egress)) => {
+            put_known(b" out=", b"egress_if", u64::from(egress), 0xFFFF, line);
+            put_known(b" in=", b"ingress_if", u64::from(ingress), 0xFFFF, line);
         }
     }
+}
 
-    // A number of 64 bits in hexadecimal digits, or `-` where it is all ones.
-    fn known_wide(&mut self, value: u64)
-        requires { 20 + length self.old ≤ 1024 }
-        ensures value { self.new ≡ known_wide value ++ self.old }
-        ensures size { length self.new ≤ 20 + length self.old }
-    {
-        if value == 0xFFFF_FFFF_FFFF_FFFF {
-            self.put(b"-");
-        } else {
-            self.digits(&eight_octets(value));
+/// Puts hop limit and wide node id (bit 8).
+#[inline]
+pub(crate) fn put_wide_hop_node<const ROOM: usize>(
+    field: Option<(u8, u64)>,
+    line: &mut LineBuffer<ROOM>,
+)
+    requires { 100 + length line.old ≤ ROOM }
+    ensures value { line.new ≡ when_there field (λ value. codes " whop=" ++ decimal value.0)
+        ++ (when_there field (λ value. codes " wnode=" ++ known 72057594037927935 value.1) ++ line.old) }
+    ensures size { length line.new ≤ 100 + length line.old }
+{
+    match field {
+        None => {}
+        Some((hop, node)) => {
+            put_known(b" wnode=", b"node_id_wide", node, 0xFF_FFFF_FFFF_FFFF, line);
+            put_hop(b" whop=", b"hop_limit_wide", hop, line);
         }
     }
+}
 
-    // A field of 64 bits in hexadecimal digits.
-    pub(crate) fn wide_field(&mut self, label: &[u8], field: Option<u64>)
-        requires label { length label.now ≤ 8 }
-        requires room { 28 + length self.old ≤ 1024 }
-        ensures value { self.new ≡ when_there field (λ value. label.now ++ known_wide value) ++ self.old }
-        ensures size { length self.new ≤ 28 + length self.old }
-    {
-        match field {
-            None => {}
-            Some(value) => {
-                self.known_wide(value);
-                self.put(label);
-            }
+/// Puts the wide interfaces (bit 9).
+#[inline]
+pub(crate) fn put_wide_faces<const ROOM: usize>(
+    field: Option<(u32, u32)>,
+    line: &mut LineBuffer<ROOM>,
+)
+    requires { 100 + length line.old ≤ ROOM }
+    ensures value { line.new ≡ when_there field (λ value. codes " win=" ++ known 4294967295 value.0)
+        ++ (when_there field (λ value. codes " wout=" ++ known 4294967295 value.1) ++ line.old) }
+    ensures size { length line.new ≤ 100 + length line.old }
+{
+    match field {
+        None => {}
+        Some((ingress, egress)) => {
+            put_known(
+                b" wout=",
+                b"egress_if_wide",
+                u64::from(egress),
+                0xFFFF_FFFF,
+                line,
+            );
+            put_known(
+                b" win=",
+                b"ingress_if_wide",
+                u64::from(ingress),
+                0xFFFF_FFFF,
+                line,
+            );
         }
-    }
-
-    // Hop limit and node id of bit 0.
-    #[inline]
-    pub(crate) fn hop_node_field(&mut self, field: Option<(u8, u32)>)
-        requires { 56 + length self.old ≤ 1024 }
-        ensures value { self.new ≡ when_there field (λ value. codes " hop=" ++ decimal value.0)
-            ++ (when_there field (λ value. codes " node=" ++ known 16777215 value.1) ++ self.old) }
-        ensures size { length self.new ≤ 56 + length self.old }
-    {
-        match field {
-            None => {}
-            Some((hop, node)) => {
-                self.labelled(b" node=", u64::from(node), 0xFF_FFFF);
-                self.hop(b" hop=", hop);
-            }
-        }
-    }
-
-    // The interfaces of bit 1.
-    #[inline]
-    pub(crate) fn faces_field(&mut self, field: Option<(u16, u16)>)
-        requires { 56 + length self.old ≤ 1024 }
-        ensures value { self.new ≡ when_there field (λ value. codes " in=" ++ known 65535 value.0)
-            ++ (when_there field (λ value. codes " out=" ++ known 65535 value.1) ++ self.old) }
-        ensures size { length self.new ≤ 56 + length self.old }
-    {
-        match field {
-            None => {}
-            Some((inward, outward)) => {
-                self.labelled(b" out=", u64::from(outward), 0xFFFF);
-                self.labelled(b" in=", u64::from(inward), 0xFFFF);
-            }
-        }
-    }
-
-    // Hop limit and node id of bit 8.
-    pub(crate) fn wide_hop_node_field(&mut self, field: Option<(u8, u64)>)
-        requires { 56 + length self.old ≤ 1024 }
-        ensures value { self.new ≡ when_there field (λ value. codes " whop=" ++ decimal value.0)
-            ++ (when_there field (λ value. codes " wnode=" ++ known 72057594037927935 value.1) ++ self.old) }
-        ensures size { length self.new ≤ 56 + length self.old }
-    {
-        match field {
-            None => {}
-            Some((hop, node)) => {
-                self.labelled(b" wnode=", node, 0xFF_FFFF_FFFF_FFFF);
-                self.hop(b" whop=", hop);
-            }
-        }
-    }
-
-    // The interfaces of bit 9.
-    pub(crate) fn wide_faces_field(&mut self, field: Option<(u32, u32)>)
-        requires { 56 + length self.old ≤ 1024 }
-        ensures value { self.new ≡ when_there field (λ value. codes " win=" ++ known 4294967295 value.0)
-            ++ (when_there field (λ value. codes " wout=" ++ known 4294967295 value.1) ++ self.old) }
-        ensures size { length self.new ≤ 56 + length self.old }
-    {
-        match field {
-            None => {}
-            Some((inward, outward)) => {
-                self.labelled(b" wout=", u64::from(outward), 0xFFFF_FFFF);
-                self.labelled(b" win=", u64::from(inward), 0xFFFF_FFFF);
-            }
-        }
-    }
-
-    // A number of 24 bits in hexadecimal digits, or `-` where it is all ones.
-    fn known_narrow(&mut self, value: u32)
-        requires { 6 + length self.old ≤ 1024 }
-        ensures value { self.new ≡ known_narrow value ++ self.old }
-        ensures size { length self.new ≤ 6 + length self.old }
-    {
-        if value == 0xFF_FFFF {
-            self.put(b"-");
-        } else {
-            self.narrow(value);
-        }
-    }
-
-    // The schema of a snapshot.
-    pub(crate) fn schema(&mut self, value: u32)
-        requires { 14 + length self.old ≤ 1024 }
-        ensures value { self.new ≡ (codes " schema=" ++ known_narrow value) ++ self.old }
-        ensures size { length self.new ≤ 14 + length self.old }
-    {
-        self.known_narrow(value);
-        self.put(b" schema=");
-    }
-
-    // Digits, or `-` where there is no octet.
-    fn opaque_digits(&mut self, octets: &[u8])
-        requires { 1 + 2 * length octets.now + length self.old ≤ 1024 }
-        ensures value { self.new ≡ opaque_digits octets.now ++ self.old }
-        ensures size { length self.new ≤ 1 + 2 * length octets.now + length self.old }
-    {
-        if octets.is_empty() {
-            self.put(b"-");
-        } else {
-            self.digits(octets);
-        }
-    }
-
-    // The data of a snapshot.
-    pub(crate) fn opaque(&mut self, octets: &[u8])
-        requires { 9 + 2 * length octets.now + length self.old ≤ 1024 }
-        ensures value { self.new ≡ (codes " opaque=" ++ opaque_digits octets.now) ++ self.old }
-        ensures size { length self.new ≤ 9 + 2 * length octets.now + length self.old }
-    {
-        self.opaque_digits(octets);
-        self.put(b" opaque=");
     }
 }

@@ -4,3 +4,4 @@ pub mod OptionsLaws
 pub mod SaysLaws
 pub mod TextLaws
 pub mod UniqueLaws
+mod TypedLaws

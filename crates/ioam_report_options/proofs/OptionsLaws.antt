@@ -1,7 +1,8 @@
 -- Laws of the IOAM options of a packet.
-use Rattle.std.proofs.Common.{◌≡◌, ℕ, zero, suc, ◌+◌, ◌*◌, ◌<◌, ◌≤◌, Bool, true, false, cond, leb, List, [], ◌∷◌, ◌++◌, length, filter, length-append, refl, sym, ap, ◌∙◌, subst, arith}
-use Rattle.std.specs.Bool.{MatchBool}
-use Rattle.std.specs.List.{All, flat_map}
+use Rattle.std.proofs.Common.{◌≡◌, ℕ, zero, suc, ◌+◌, ◌*◌, ◌<◌, ◌≤◌, Bool, true, false, cond, leb, List, [], ◌∷◌, ◌++◌, length, take, drop, filter, length-append, ◌==◌, refl, sym, ap, ◌∙◌, subst, arith}
+use Rattle.std.specs.Bool.{MatchBool, if◌then◌else◌}
+use Rattle.std.specs.Prelude.{slice_index}
+use Rattle.std.specs.List.{All}
 use Rattle.std.proofs.lemmas.Bool.{leb-true}
 use Rattle.std.proofs.lemmas.List.{length-map}
 use Rattle.std.proofs.lemmas.List.Elements.{All-head, All-rest, All-cons, All-nil}
@@ -20,6 +21,7 @@ use Rattle.ioam_ip.proofs.FitLaws.{heads_fit}
 use Rattle.ioam_ip.proofs.HeadsLeftLaws.{all_from as all_heads}
 use Rattle.ioam_ip.proofs.OptionsLaws.{option_size-pos}
 use Rattle.ioam_ip.proofs.OptionsLeftLaws.{all_from as all_options}
+use Rattle.ioam_report_lines.proofs.FittingLaws.{take-few}
 use Rattle.ioam_report_lines.proofs.ListedLaws.{few_filtered, few_options}
 use Rattle.ioam_report_lines.proofs.TracesLaws.{options_in, options_either, the_heads, few_heads, few_octets, squared}
 use Rattle.ioam_report_options.specs.OptionsText.{placed, ioam_among, IoamOf, AreIoam, ioam_in, ioam_from, ioam_of}
@@ -80,7 +82,7 @@ AreIoam-unique p xs ys a b =
 
 -- an option begins within a header of this length
 abbrev pub IsInside : ℕ → Item → Type 0
-IsInside size option = option.at < size
+IsInside size option = (option.at < size) × (length option.body ≤ 255)
 
 inside_either : (size : ℕ) (fits option : Bool) (item : Item) (items : List Item) → (fits ≡ true → IsInside size item)
     → All (IsInside size) items → All (IsInside size) (cond fits (cond option (item ∷ items) items) [])
@@ -88,18 +90,25 @@ inside_either size true true item items here rest = All-cons (IsInside size) ite
 inside_either size true false item items here rest = rest
 inside_either size false option item items here rest = All-nil (IsInside size)
 
-inside_from : (steps : ℕ) (head : List ℕ) (at : ℕ) → All (IsInside (length head)) (options_from steps head at)
-inside_from zero head at = All-nil (IsInside (length head))
-inside_from (suc steps) head at =
-    inside_either (length head) (leb (option_end head at) (length head)) (is_option (item_at head at)) (item_at head at) (options_from steps head (option_end head at))
-    (λ fits. omega (arith, leb-true (option_end head at) (length head) fits, option_size-pos head at))
-    (inside_from steps head (option_end head at))
+body-few : (head : List ℕ) (at : ℕ) (padding : Bool) (amount : ℕ) → amount < 256 → length (if padding then [] else take amount (drop (at + 2) head)) ≤ 255
+body-few head at true amount below = omega arith
+body-few head at false amount below = omega (arith, below, take-few amount (drop (at + 2) head))
 
--- each option of a header begins within it
-pub options_inside : (head : List ℕ) (options : List Item) → AreOptions head options → All (IsInside (length head)) options
-options_inside head options are =
+inside_from : (steps : ℕ) (head : List ℕ) (at : ℕ) → IsOctets head → All (IsInside (length head)) (options_from steps head at)
+inside_from zero head at octets = All-nil (IsInside (length head))
+inside_from (suc steps) head at octets =
+    inside_either (length head) (leb (option_end head at) (length head)) (is_option (item_at head at)) (item_at head at) (options_from steps head (option_end head at))
+    (λ fits. (
+      omega (arith, leb-true (option_end head at) (length head) fits, option_size-pos head at),
+      body-few head at (slice_index head at == 0) (slice_index head (at + 1)) (octets (at + 1)),
+    ))
+    (inside_from steps head (option_end head at) octets)
+
+-- each option of a header begins within it, and its data are 255 octets at most
+pub options_inside : (head : List ℕ) (options : List Item) → IsOctets head → AreOptions head options → All (IsInside (length head)) options
+options_inside head options octets are =
     let P : List Item → Type 0 = λ items. All (IsInside (length head)) items in
-    subst P (all_options head options are) (inside_from (length head) head 2)
+    subst P (all_options head options are) (inside_from (length head) head 2 octets)
 
 -- ---- how many there are
 

@@ -1,5 +1,5 @@
 -- What the data of an option says is one text, and what was read of it is what it says.
-use Rattle.std.proofs.Common.{◌≡◌, ℕ, ◌<◌, ◌≤◌, ◌⊎◌, inl, inr, Bool, true, false, List, ◌++◌, length, drop, Option, Some, None, Result, Ok, Err, refl, sym, ap, ◌∙◌, subst, arith, decimal, codes}
+use Rattle.std.proofs.Common.{◌≡◌, ℕ, inl, inr, Bool, true, false, List, ◌++◌, drop, Option, Some, None, Ok, Err, refl, sym, ap, ◌∙◌, subst, arith, decimal, codes}
 use Rattle.std.specs.Bool.{MatchBool}
 use Rattle.std.specs.List.{flat_map}
 use Rattle.std.specs.Int.{w32, to_be_bytes}
@@ -15,15 +15,15 @@ use Rattle.ioam_edge.specs.declared.edge.EdgeFault.{EdgeFault}
 use Rattle.ioam_edge.specs.declared.edge.EdgeFault.TheVariants as edge_fault
 use Rattle.ioam_edge.proofs.EdgeLaws.{edge_octets-same}
 use Rattle.ioam_trace.specs.Head.{node_len_of, flags_of, remaining_of, kind_of}
-use Rattle.ioam_trace.specs.Read.{Carries, TraceOf, IncrementalOf, HasFault, Reads, Decodes, fault_of, elements_in, incremental_elements, elements_behind}
+use Rattle.ioam_trace.specs.Read.{Carries, TraceOf, HasFault, Reads, Decodes, fault_of, elements_in, incremental_elements, elements_behind}
 use Rattle.ioam_trace.specs.declared.head.TraceHead.{TraceHead}
 use Rattle.ioam_trace.specs.declared.trace.Trace.{Trace}
 use Rattle.ioam_trace.specs.declared.incremental.Incremental.{Incremental}
 use Rattle.ioam_trace.specs.declared.fault.TraceFault.{TraceFault}
 use Rattle.ioam_trace.proofs.ReadLaws.{fault_of-Carries, elements_behind-Carries, fault_of-HasFault}
-use Rattle.ioam_report_lines.specs.Digits.{digits_of}
+use Rattle.ioam_line.specs.Digits.{digits_of}
 use Rattle.ioam_report_lines.specs.TraceText.{line_feed, element_line}
-use Rattle.ioam_report_options.specs.OptionText.{trace_text, edge_text, direct_text, TraceSays, IncrementalSays, EdgeSays, DirectSays, SaysBy, Says, IsOptionLine, front_text}
+use Rattle.ioam_report_options.specs.OptionText.{trace_text, edge_text, direct_text, TraceSays, IncrementalSays, EdgeSays, DirectSays, SaysBy, Says}
 use Rattle.ioam_data.specs.declared.option_type.OptionType.{OptionType}
 use Rattle.ioam_data.specs.declared.option_type.OptionType.TheVariants.{PreallocatedTrace, IncrementalTrace, ProofOfTransit, EdgeToEdge, DirectExport, Unassigned}
 

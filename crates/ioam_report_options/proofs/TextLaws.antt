@@ -1,11 +1,11 @@
 -- Texts piece by piece.
-use Rattle.std.proofs.Common.{◌≡◌, ℕ, List, [], ◌∷◌, ◌++◌, length, drop, append_assoc, ap, ◌∙◌, decimal, codes}
+use Rattle.std.proofs.Common.{◌≡◌, ℕ, List, ◌++◌, length, drop, append_assoc, ap, ◌∙◌, decimal, codes}
 use Rattle.std.specs.Int.{w16, w32, to_be_bytes}
 use Rattle.ioam_dex.specs.declared.direct.Direct.{Direct}
 use Rattle.ioam_edge.specs.declared.edge.Edge.{Edge}
 use Rattle.ioam_ip.specs.Options.{Item}
 use Rattle.ioam_trace.specs.declared.head.TraceHead.{TraceHead}
-use Rattle.ioam_report_lines.specs.Digits.{digits_of}
+use Rattle.ioam_line.specs.Digits.{digits_of}
 use Rattle.ioam_report_lines.specs.FieldsText.{known}
 use Rattle.ioam_report_lines.specs.Spaced.{when_there}
 use Rattle.ioam_report_lines.specs.TraceText.{line_feed}
@@ -13,7 +13,7 @@ use Rattle.ioam_report_options.specs.OptionText.{head_text, edge_text, direct_te
 
 abbrev direct_pieces : ℕ → ℕ → ℕ → List ℕ → List ℕ → List ℕ
 direct_pieces namespace kind flags flow seq = (codes "direct " ++ decimal namespace) ++ ((codes " " ++ digits_of (drop 1 (to_be_bytes w32 kind)))
-    ++ ((codes " flags " ++ decimal flags) ++ (flow ++ (seq ++ (line_feed ++ [])))))
+    ++ ((codes " flags " ++ decimal flags) ++ (flow ++ (seq ++ line_feed))))
 
 pub direct_by_pieces : (direct : Direct) (namespace kind flags : ℕ) (flow seq : List ℕ) → namespace ≡ direct.namespace.0 → kind ≡ direct.kind → flags ≡ direct.flags
     → flow ≡ when_there direct.flow (λ number. codes " flow=" ++ decimal number) → seq ≡ when_there direct.seq (λ number. codes " seq=" ++ decimal number)
@@ -28,7 +28,7 @@ direct_by_pieces direct namespace kind flags flow seq n k f a b =
 
 abbrev edge_pieces : ℕ → List ℕ → List ℕ → List ℕ → List ℕ → List ℕ → List ℕ
 edge_pieces namespace kind seq64 seq32 seconds fraction = (codes "edge " ++ decimal namespace) ++ ((codes " " ++ digits_of kind)
-    ++ (seq64 ++ (seq32 ++ (seconds ++ (fraction ++ (line_feed ++ []))))))
+    ++ (seq64 ++ (seq32 ++ (seconds ++ (fraction ++ line_feed)))))
 
 pub edge_by_pieces : (edge : Edge) (namespace : ℕ) (kind seq64 seq32 seconds fraction : List ℕ) → namespace ≡ edge.namespace.0 → kind ≡ to_be_bytes w16 edge.kind
     → seq64 ≡ when_there edge.seq64 (λ number. codes " seq64=" ++ decimal number) → seq32 ≡ when_there edge.seq32 (λ number. codes " seq32=" ++ decimal number)
@@ -56,7 +56,7 @@ counted_by count options lines is =
 -- the header of a trace behind a label
 abbrev head_pieces : List ℕ → ℕ → ℕ → ℕ → ℕ → List ℕ
 head_pieces label namespace kind flags remaining = label ++ (decimal namespace ++ ((codes " " ++ digits_of (drop 1 (to_be_bytes w32 kind)))
-    ++ ((codes " flags " ++ decimal flags) ++ ((codes " remaining " ++ decimal remaining) ++ (line_feed ++ [])))))
+    ++ ((codes " flags " ++ decimal flags) ++ ((codes " remaining " ++ decimal remaining) ++ line_feed))))
 
 pub head_by_pieces : (head : TraceHead) (label : List ℕ) (namespace kind flags remaining : ℕ) → namespace ≡ head.namespace.0 → kind ≡ head.kind → flags ≡ head.flags
     → remaining ≡ head.remaining → head_pieces label namespace kind flags remaining ≡ label ++ head_text head

@@ -1,6 +1,6 @@
 -- How an IOAM option is printed: its type and place, and behind these what its data says, by the
 -- relations of the formats themselves (RFC 9197, RFC 9326, RFC 9486).
-use Rattle.std.specs.Prelude.{◌≡◌, ℕ, ◌⊎◌, ◌==◌, nat_lt, if◌then◌else◌, List, ◌++◌, Ok, Err, length, drop, slice_index, decimal, codes}
+use Rattle.std.specs.Prelude.{◌≡◌, ℕ, ◌⊎◌, nat_lt, List, ◌++◌, Ok, Err, length, drop, slice_index, decimal, codes}
 use Rattle.std.specs.Bool.{MatchBool}
 use Rattle.std.specs.List.{flat_map}
 use Rattle.std.specs.Int.{w16, w32, to_be_bytes}
@@ -17,7 +17,7 @@ use Rattle.ioam_trace.specs.Head.{remaining_of}
 use Rattle.ioam_trace.specs.Read.{TraceOf, IncrementalOf, HasFault}
 use Rattle.ioam_trace.specs.declared.head.TraceHead.{TraceHead}
 use Rattle.ioam_trace.specs.declared.fault.TraceFault.{TraceFault}
-use Rattle.ioam_report_lines.specs.Digits.{pair_of, digits_of}
+use Rattle.ioam_line.specs.Digits.{pair_of, digits_of}
 use Rattle.ioam_report_lines.specs.FieldsText.{known, opaque_digits}
 use Rattle.ioam_report_lines.specs.Spaced.{when_there}
 use Rattle.ioam_report_lines.specs.TraceText.{line_feed, element_line}
@@ -112,6 +112,10 @@ Says body said = MatchBool (nat_lt (length body) 2) (said ≡ codes "short\n")
 -- two spaces, the two digits of the option's type, and its place
 abbrev pub front_text : ℕ → ℕ → List ℕ
 front_text kind at = codes "  " ++ pair_of kind ++ codes " at " ++ decimal at ++ codes " "
+
+-- what is said after that
+abbrev pub Fronted : ℕ → ℕ → (List ℕ → Type 0) → List ℕ → Type 0
+Fronted kind at Is text = (said : List ℕ) × Is said × (text ≡ front_text kind at ++ said)
 
 -- these are the lines of an option whose place is that of its type octet in the packet
 pub record IsOptionLine (option : Item) (text : List ℕ) : Type 0 where

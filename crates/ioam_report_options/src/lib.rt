@@ -6,6 +6,7 @@ mod counting;
 mod directs;
 mod edges;
 mod fields;
+mod front;
 mod line;
 mod listing;
 mod traces;

@@ -1,10 +1,11 @@
 //! The lines of all IOAM options of a packet.
-ghost use Rattle.std.specs.Prelude.{◌≡◌, ◌+◌, ◌<◌, ◌^◌, List, ℕ, [], ◌∷◌, length};
+ghost use Rattle.std.specs.Prelude.{◌≡◌, ◌++◌, ◌+◌, ◌<◌, ◌≤◌, ◌^◌, List, ℕ, [], ◌∷◌, length, decimal, codes, is_ok, if◌then◌else◌};
 ghost use Rattle.ioam_ip.specs.Chain.{IsSound};
 ghost use Rattle.ioam_ip.specs.ChainOptions.{HeadFits};
 ghost use Rattle.ioam_ip.specs.Options.{IsFilled};
 ghost use Rattle.ioam_ip.specs.OptionsLeft.{item_of, options_from};
 ghost use Rattle.ioam_ip.specs.Packet.{IsPacket};
+ghost use Rattle.ioam_report_lines.specs.TraceText.{line_feed};
 ghost use Rattle.ioam_report_options.specs.Appends.{Appends};
 ghost use Rattle.ioam_report_options.specs.OptionsText.{ioam_among, ioam_in, ioam_of, OptionLines, OptionsText, CountedText};
 
@@ -14,37 +15,54 @@ use ioam_base::memory::NoMemory;
 use ioam_base::text::settle;
 use ioam_ip::option_type::is_ioam_type;
 use ioam_ip::{Head, Opt, heads, options};
-use ioam_report_lines::{Piece, put_pieces};
+use ioam_line::{LineBuffer, Piece, Value};
+use ioam_report_lines::ReportLine;
 
 // Appends the lines of an option of a header that starts at a place of the packet, if it is an IOAM
 // option.
-fn put_if_ioam(start: usize, option: &Opt<'_>, out: &mut Vec<u8>) -> Result<(), NoMemory>
-    requires { start + option.now.at < 2 ^ 64 }
+fn put_if_ioam(
+    start: usize,
+    option: &Opt<'_>,
+    line: &mut ReportLine,
+    out: &mut Vec<u8>,
+) -> Result<(), NoMemory>
+    requires within { start + option.now.at < 2 ^ 64 }
+    requires short { length option.now.body.now ≤ 255 }
     ensures { Appends result (OptionLines (ioam_among start (item_of option.now ∷ []))) out.old.items out.new.items }
 {
     if is_ioam_type(option.kind) {
-        put_line(start, option, out)
+        put_line(start, option, line, out)
     } else {
         Ok(())
     }
 }
 
 // Appends the lines of the IOAM options of an options header that starts at a place of the packet.
-fn put_among(start: usize, head: &[u8], out: &mut Vec<u8>) -> Result<(), NoMemory>
+fn put_among(
+    start: usize,
+    head: &[u8],
+    line: &mut ReportLine,
+    out: &mut Vec<u8>,
+) -> Result<(), NoMemory>
     requires filled { IsFilled head.now }
     requires within { start + length head.now < 2 ^ 64 }
     ensures { Appends result (OptionLines (ioam_among start (options_from (length head.now) head.now 2))) out.old.items out.new.items }
 {
     let before = out.len();
     for option in options(head) {
-        let answer = put_if_ioam(start, &option, out);
+        let answer = put_if_ioam(start, &option, line, out);
         settle(out, before, answer)?;
     }
     Ok(())
 }
 
 // Appends the lines of those of a header of the packet.
-fn put_in(packet: &[u8], head: &Head, out: &mut Vec<u8>) -> Result<(), NoMemory>
+fn put_in(
+    packet: &[u8],
+    head: &Head,
+    line: &mut ReportLine,
+    out: &mut Vec<u8>,
+) -> Result<(), NoMemory>
     requires { HeadFits packet.now head.now }
     ensures { Appends result (OptionLines (ioam_in packet.now head.now)) out.old.items out.new.items }
 {
@@ -54,6 +72,7 @@ fn put_in(packet: &[u8], head: &Head, out: &mut Vec<u8>) -> Result<(), NoMemory>
         put_among(
             head.range.start,
             &packet[head.range.start..head.range.end],
+            line,
             out,
         )
     } else {
@@ -62,14 +81,14 @@ fn put_in(packet: &[u8], head: &Head, out: &mut Vec<u8>) -> Result<(), NoMemory>
 }
 
 // Appends the lines of those of all headers on the chain.
-fn put_all(packet: &[u8], out: &mut Vec<u8>) -> Result<(), NoMemory>
+fn put_all(packet: &[u8], line: &mut ReportLine, out: &mut Vec<u8>) -> Result<(), NoMemory>
     requires packet { IsPacket packet.now }
     requires sound { IsSound packet.now }
     ensures { Appends result (OptionLines (ioam_of packet.now)) out.old.items out.new.items }
 {
     let before = out.len();
     for head in heads(packet) {
-        let answer = put_in(packet, &head, out);
+        let answer = put_in(packet, &head, line, out);
         settle(out, before, answer)?;
     }
     Ok(())
@@ -90,7 +109,18 @@ pub fn put_options(packet: &[u8], out: &mut Vec<u8>) -> Result<(), NoMemory>
     // A packet has one such text.
     ensures only { (one other : List ℕ) → OptionsText packet.now one → OptionsText packet.now other → one ≡ other }
 {
-    put_all(packet, out)
+    put_all(packet, &mut LineBuffer::new(), out)
+}
+
+// Appends ` options COUNT` and a line feed.
+fn put_count(count: u64, line: &mut ReportLine, out: &mut Vec<u8>) -> Result<(), NoMemory>
+    ensures { out.new.items ≡ (if is_ok result
+        then out.old.items ++ (codes " options " ++ (decimal count ++ line_feed))
+        else out.old.items) }
+{
+    line.end::<false>();
+    line.put::<false>(Piece::Fact(b" options ", b"options", Value::Number(count)));
+    line.finish::<false>(b"packet", out)
 }
 
 /// Appends ` options COUNT`, a line feed, and the lines of [`put_options`].
@@ -101,11 +131,8 @@ pub fn put_counted_options(packet: &[u8], out: &mut Vec<u8>) -> Result<(), NoMem
     ensures only { (one other : List ℕ) → CountedText packet.now one → CountedText packet.now other → one ≡ other }
 {
     let before = out.len();
-    let count = count_options(packet) as u64;
-    put_pieces(
-        &[Piece::Number(b" options ", count), Piece::Text(b"\n")],
-        out,
-    )?;
-    let answer = put_all(packet, out);
+    let mut line = LineBuffer::new();
+    put_count(count_options(packet) as u64, &mut line, out)?;
+    let answer = put_all(packet, &mut line, out);
     settle(out, before, answer)
 }

@@ -1,89 +1,119 @@
 //! What a trace says.
-ghost use Rattle.std.specs.Prelude.{◌≡◌, ◌++◌, codes, is_ok, if◌then◌else◌};
+ghost use Rattle.std.specs.Prelude.{◌≡◌, ◌++◌, ◌≤◌, length, codes, is_ok, if◌then◌else◌};
 ghost use Rattle.std.specs.List.{flat_map};
 ghost use Rattle.ioam_trace.specs.Read.{elements_in, incremental_elements};
-ghost use Rattle.ioam_report_lines.specs.TraceText.{element_line};
+ghost use Rattle.ioam_report_lines.specs.TraceText.{line_feed, element_line};
 ghost use Rattle.ioam_report_options.specs.Appends.{Appends};
-ghost use Rattle.ioam_report_options.specs.OptionText.{head_text, trace_text, TraceSays, IncrementalSays};
+ghost use Rattle.ioam_report_options.specs.OptionText.{front_text, head_text, trace_text, TraceSays, IncrementalSays, Fronted};
 
 use crate::fields::put_bad;
+use crate::front::{Front, finish_line};
 use ioam_base::memory::NoMemory;
 use ioam_base::text::settle;
 use ioam_data::option_type::{INCREMENTAL_TRACE, PREALLOCATED_TRACE};
-use ioam_report_lines::{Piece, put_element_line, put_element_lines, put_pieces};
+use ioam_line::{Piece, Value};
+use ioam_report_lines::{ReportLine, put_element_line, put_element_lines, put_trace_type};
 use ioam_trace::{Incremental, Trace, TraceHead};
 
-// The header of a trace.
-fn put_head(label: &[u8], head: &TraceHead, out: &mut Vec<u8>) -> Result<(), NoMemory>
-    ensures { out.new.items ≡ (if is_ok result then out.old.items ++ (label.now ++ head_text head.now) else out.old.items) }
+// Puts the header of a trace.
+fn put_head(label: &[u8], head: &TraceHead, line: &mut ReportLine)
+    requires label { length label.now ≤ 12 }
+    requires ends { line.old ≡ line_feed }
+    ensures value { line.new ≡ label.now ++ head_text head.now }
+    ensures size { length line.new ≤ 300 }
 {
-    put_pieces(
-        &[
-            Piece::Text(label),
-            Piece::Number(b"", u64::from(head.namespace.0)),
-            Piece::Narrow(b" ", head.kind.bits()),
-            Piece::Number(b" flags ", u64::from(head.flags)),
-            Piece::Number(b" remaining ", u64::from(head.remaining)),
-            Piece::Text(b"\n"),
-        ],
-        out,
-    )
+    let remaining = Value::Number(u64::from(head.remaining));
+    line.put::<false>(Piece::Fact(b" remaining ", b"remaining_len", remaining));
+    let flags = Value::Number(u64::from(head.flags));
+    line.put::<false>(Piece::Fact(b" flags ", b"flags", flags));
+    put_trace_type(b" ", head.kind, line);
+    let namespace = Value::Number(u64::from(head.namespace.0));
+    line.put::<false>(Piece::Fact(b"", b"namespace", namespace));
+    line.put::<false>(Piece::Said(label));
 }
 
 // The header of a pre-allocated trace and its elements.
-fn put_whole(trace: &Trace<'_>, out: &mut Vec<u8>) -> Result<(), NoMemory>
+fn put_whole(
+    trace: &Trace<'_>,
+    front: Front,
+    line: &mut ReportLine,
+    out: &mut Vec<u8>,
+) -> Result<(), NoMemory>
     ensures { out.new.items ≡ (if is_ok result
-        then out.old.items ++ (codes "trace " ++ trace_text trace.now.head (elements_in trace.now))
+        then out.old.items ++ (front_text front.kind front.at ++ (codes "trace " ++ trace_text trace.now.head (elements_in trace.now)))
         else out.old.items) }
 {
     let before = out.len();
-    put_head(b"trace ", &trace.head, out)?;
-    let answer = put_element_lines(trace, out);
+    line.end::<false>();
+    put_head(b"trace ", &trace.head, line);
+    finish_line(front, line, out)?;
+    let answer = put_element_lines(trace, line, out);
     settle(out, before, answer)
 }
 
 // A line for each element of an incremental trace, in visit order.
-fn put_newer_lines(trace: &Incremental<'_>, out: &mut Vec<u8>) -> Result<(), NoMemory>
+fn put_newer_lines(
+    trace: &Incremental<'_>,
+    line: &mut ReportLine,
+    out: &mut Vec<u8>,
+) -> Result<(), NoMemory>
     ensures { out.new.items ≡ (if is_ok result
         then out.old.items ++ flat_map (element_line trace.now.head.kind trace.now.head.node_len) (incremental_elements trace.now)
         else out.old.items) }
 {
     let before = out.len();
     for element in trace.elements() {
-        let answer = put_element_line(trace.head.kind, trace.head.node_len, element, out);
+        let answer = put_element_line(trace.head.kind, trace.head.node_len, element, line, out);
         settle(out, before, answer)?;
     }
     Ok(())
 }
 
 // The header of an incremental trace and its elements.
-fn put_grown(trace: &Incremental<'_>, out: &mut Vec<u8>) -> Result<(), NoMemory>
+fn put_grown(
+    trace: &Incremental<'_>,
+    front: Front,
+    line: &mut ReportLine,
+    out: &mut Vec<u8>,
+) -> Result<(), NoMemory>
     ensures { out.new.items ≡ (if is_ok result
-        then out.old.items ++ (codes "incremental " ++ trace_text trace.now.head (incremental_elements trace.now))
+        then out.old.items ++ (front_text front.kind front.at ++ (codes "incremental " ++ trace_text trace.now.head (incremental_elements trace.now)))
         else out.old.items) }
 {
     let before = out.len();
-    put_head(b"incremental ", &trace.head, out)?;
-    let answer = put_newer_lines(trace, out);
+    line.end::<false>();
+    put_head(b"incremental ", &trace.head, line);
+    finish_line(front, line, out)?;
+    let answer = put_newer_lines(trace, line, out);
     settle(out, before, answer)
 }
 
-/// Appends what the octets of a pre-allocated trace say (RFC 9197 section 4.4).
-pub(crate) fn put_trace(octets: &[u8], out: &mut Vec<u8>) -> Result<(), NoMemory>
-    ensures { Appends result (TraceSays octets.now) out.old.items out.new.items }
+/// Appends the lines of a pre-allocated trace (RFC 9197 section 4.4).
+pub(crate) fn put_trace(
+    octets: &[u8],
+    front: Front,
+    line: &mut ReportLine,
+    out: &mut Vec<u8>,
+) -> Result<(), NoMemory>
+    ensures { Appends result (Fronted front.kind front.at (TraceSays octets.now)) out.old.items out.new.items }
 {
     match Trace::read(octets) {
-        Ok(trace) => put_whole(&trace, out),
-        Err(_) => put_bad(PREALLOCATED_TRACE, out),
+        Ok(trace) => put_whole(&trace, front, line, out),
+        Err(_) => put_bad(PREALLOCATED_TRACE, front, line, out),
     }
 }
 
-/// Appends what the octets of an incremental trace say (RFC 9197 section 4.4).
-pub(crate) fn put_incremental(octets: &[u8], out: &mut Vec<u8>) -> Result<(), NoMemory>
-    ensures { Appends result (IncrementalSays octets.now) out.old.items out.new.items }
+/// Appends the lines of an incremental trace (RFC 9197 section 4.4).
+pub(crate) fn put_incremental(
+    octets: &[u8],
+    front: Front,
+    line: &mut ReportLine,
+    out: &mut Vec<u8>,
+) -> Result<(), NoMemory>
+    ensures { Appends result (Fronted front.kind front.at (IncrementalSays octets.now)) out.old.items out.new.items }
 {
     match Incremental::decode(octets) {
-        Ok(trace) => put_grown(&trace, out),
-        Err(_) => put_bad(INCREMENTAL_TRACE, out),
+        Ok(trace) => put_grown(&trace, front, line, out),
+        Err(_) => put_bad(INCREMENTAL_TRACE, front, line, out),
     }
 }

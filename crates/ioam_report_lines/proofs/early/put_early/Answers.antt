@@ -4,7 +4,7 @@ use Rattle.ioam_report_lines.proofs.EarlyLaws.{same-words}
 use Rattle.ioam_report_lines.proofs.early.put_early.Goals as goal
 
 pub returns-clause-value : goal.returns-clause-value
-returns-clause-value c =
+returns-clause-value g c =
     let kind = c.args.kind in
     let octets = c.args.element.now in
     let hop_node : c.hop_node-hop_node.result ≡ when_has kind 0 (hop_node_at octets) = c.hop_node-hop_node.ensures.value in

@@ -1,15 +1,18 @@
-use Rattle.std.proofs.Common.{◌≡◌, ◌++◌, length, codes, rules, refl, arith, length-append, ap}
-use Rattle.ioam_report_lines.specs.Digits.{digits_of}
-use Rattle.ioam_report_lines.proofs.TextLaws.{fillers-step, front-kept}
+use Rattle.std.proofs.Common.{◌≡◌, ◌+◌, ◌-◌, ◌*◌, ◌≤◌, length, take, drop, arith}
+use Rattle.ioam_report_lines.proofs.FittingLaws.{take-few}
+use Rattle.ioam_report_lines.proofs.SpacedLaws.{filler-before}
 use Rattle.ioam_report_lines.proofs.elements.put_fillers.Goals as goal
 
-pub words-preserved : goal.words-preserved
-words-preserved c =
-    let part = codes " fill=" ++ digits_of c.split_at.result.0.now in
-    let is_new : c.settle.new.out.items ≡ c.words.out.items ++ part = search rules in
+pub fillers-preserved : goal.fillers-preserved
+fillers-preserved g c =
+    let at = c.fillers.words - 1 in
+    let size = 4 * at + 4 - 4 * at in
+    let filler = take size (drop (4 * at) c.args.octets.now) in
+    let is : c.fillers.words ≡ at + 1 = omega (arith, c.fillers-test.true) in
+    let four : size ≡ 4 = omega arith in
+    let grown : length c.put.new.self ≤ 6 + (2 * length filler + 2) + length c.fillers.line = c.put.ensures.size in
     record {
-      lead = fillers-step c.words.out.items _ _ c.split_at.result.0.now c.split_at.result.1.now c.words.rest.now c.settle.new.out.items
-          c.words-test.true (search rules) (search rules) refl (search rules) c.words.invariant.lead;
-      front = front-kept _ c.words.out.items c.settle.new.out.items part _ c.words.invariant.more is_new c.words.invariant.front;
-      more = omega (arith, ap length is_new, length-append c.words.out.items part);
+      value = filler-before c.args.octets.now _ _ _ at c.fillers.words size four is c.fillers.invariant.within c.fillers.invariant.value c.put.ensures.value;
+      size = omega (arith, c.fillers-test.true, grown, take-few size (drop (4 * at) c.args.octets.now), c.fillers.invariant.size);
+      within = omega (arith, c.fillers.invariant.within);
     }

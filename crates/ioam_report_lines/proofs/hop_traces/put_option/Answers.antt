@@ -15,8 +15,8 @@ returns-then-is_changing_trace c =
     let old = c.args.out.now.items in
     let rest : take (length item.body - 2) (drop 2 item.body) ≡ drop 2 item.body =
     take_all (length item.body - 2) (drop 2 item.body) (omega (arith, length-drop 2 item.body)) in
-    let told : List ℕ → List ℕ = λ xs. if is_ok c.put_trace_lines.result then old ++ xs else old in
-    c.put_trace_lines.ensures.text ∙ ap (λ xs. told (trace_lines xs)) rest ∙ ap told (one_line item is)
+    let told : List ℕ → List ℕ = λ xs. if is_ok c.put_trace.result then old ++ xs else old in
+    c.put_trace.ensures ∙ ap (λ xs. told (trace_lines xs)) rest ∙ ap told (one_line item is)
 
 pub returns-else-is_changing_trace : goal.returns-else-is_changing_trace
 returns-else-is_changing_trace c =

@@ -1,4 +1,4 @@
-use Rattle.std.proofs.Common.{◌≡◌, [], ◌∷◌, List, ℕ, is_ok, refl, rules, ap}
+use Rattle.std.proofs.Common.{◌≡◌, [], ◌∷◌, List, ℕ, is_ok, rules, ap}
 use Rattle.std.proofs.lemmas.List.Elements.{All-rest}
 use Rattle.ioam_ip.specs.ChainOptions.{HeadFits}
 use Rattle.ioam_ip.specs.HeadsLeft.{heads_left, AreHeads}

@@ -1,5 +1,5 @@
 use Rattle.std.proofs.Common.{◌≡◌, [], ◌∷◌, List, ℕ, is_ok, rules, arith, ap}
-use Rattle.std.proofs.lemmas.List.Elements.{All-rest, All-head}
+use Rattle.std.proofs.lemmas.List.Elements.{All-rest}
 use Rattle.ioam_ip.specs.Options.{Item, AreOptions}
 use Rattle.ioam_ip.specs.OptionsLeft.{options_left, item_of}
 use Rattle.ioam_report_options.specs.OptionsText.{ioam_among, OptionLines}
@@ -17,7 +17,7 @@ loop-option-init c =
       finite = search rules;
       so_far = none;
       front = Appended-front _ _ _ _ none;
-      inside = options_inside c.args.head.now _ are;
+      inside = options_inside c.args.head.now _ (λ i. omega (arith, c.type_inv.head i)) are;
     }
 
 pub loop-option-preserved : goal.loop-option-preserved

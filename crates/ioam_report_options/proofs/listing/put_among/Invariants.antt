@@ -1,4 +1,4 @@
-use Rattle.std.proofs.Common.{◌≡◌, ◌≤◌, length, take}
+use Rattle.std.proofs.Common.{◌≡◌, length, take}
 use Rattle.std.specs.List.{All}
 use Rattle.ioam_ip.specs.OptionsLeft.{options_left}
 use Rattle.ioam_report_options.specs.OptionsText.{ioam_among}

@@ -10,18 +10,18 @@ pub returns-clause-lines : goal.returns-clause-lines
 returns-clause-lines c =
     let p = c.args.packet.now in
     Appends-behind c.settle.result c.put_all-answer.result (OptionLines (ioam_of p)) (CountedText p) c.args.out.now.items
-    (codes " options " ++ (decimal c.count_options-count.result ++ line_feed)) _ _ _ _
-    (search rules) c.in_ok-put_pieces.ensures c.put_all-answer.ensures c.settle.ensures.answer c.settle.ensures.kept
+    (codes " options " ++ (decimal c.count_options.result ++ line_feed)) _ _ _ _
+    (search rules) c.in_ok-put_count.ensures c.put_all-answer.ensures c.settle.ensures.answer c.settle.ensures.kept
     (λ lines are_lines. record {
       options = ioam_of p;
       lines = lines;
-      are = c.count_options-count.ensures.are;
+      are = c.count_options.ensures.are;
       are_lines = are_lines;
-      text_is = counted_by c.count_options-count.result (ioam_of p) lines c.count_options-count.ensures.count;
+      text_is = counted_by c.count_options.result (ioam_of p) lines c.count_options.ensures.count;
     })
 
 pub returns-clause-only : goal.returns-clause-only
 returns-clause-only c = λ one other. CountedText-unique c.args.packet.now one other
 
-pub returns-in_err-put_pieces-clause-only : goal.returns-in_err-put_pieces-clause-only
-returns-in_err-put_pieces-clause-only c = λ one other. CountedText-unique c.args.packet.now one other
+pub returns-in_err-put_count-clause-only : goal.returns-in_err-put_count-clause-only
+returns-in_err-put_count-clause-only c = λ one other. CountedText-unique c.args.packet.now one other
