@@ -28,8 +28,8 @@ use Rattle.ioam_run_texts.specs.Seeing.{view_of}
 use Rattle.ioam_run_texts.specs.Step.{knows}
 use Rattle.ioam_run_texts.proofs.SeeingLaws.{view_of-right}
 use Rattle.ioam_collect_laws.specs.Exported.{ExportsAreRead, IsTimely, IsTold, ReadsRun}
-use Rattle.ioam_collect_laws.specs.Paths.{IsWithin, exports_of, path_of, recorded_at, records_by}
-use Rattle.ioam_collect_laws.proofs.RunLaws.{along_none, known_at, numbered, parts_none, within_at}
+use Rattle.ioam_collect_laws.specs.Paths.{exports_of, path_of, recorded_at, records_by}
+use Rattle.ioam_collect_laws.proofs.RunLaws.{along_none, known_at, numbered, parts_none}
 use Rattle.ioam_collect_laws.proofs.TextLaws.{exports-octets}
 use Rattle.ioam_collect_laws.proofs.TimesLaws.{HasRoom, visits_at}
 use Rattle.ioam_collect_laws.proofs.TrailLaws.{all_cond, bits, cond_append, has_its, is_direct, number_is, recorded, some_is}
@@ -86,36 +86,36 @@ module _ (domain : Domain) (readings : List (List Sample)) where
         (all_cond IsRecord b x more (record-is domain readings visit.place visit.time (hops - length done) direct is its room.0.0 room.0.1)
         (along-records (done ++ visit ∷ []) visits room.1))
 
-  module _ (flow : Flow) (sound : IsFlow flow) (within : IsWithin flow) (kind id seq : ℕ) (direct : flow.direct ≡ Some kind) (of_id : flow.flow_id ≡ Some id)
+  module _ (flow : Flow) (sound : IsFlow flow) (kind id seq : ℕ) (direct : flow.direct ≡ Some kind) (of_id : flow.flow_id ≡ Some id)
       (below : seq < 4294967296) where
     flow-records : (numbers : Numbers) (packet : List ℕ) (visits : List Visit) → numbers.direct ≡ Some seq → AllByRecursion HasRoom visits
         → AllByRecursion IsRecord (along (recorded_at domain readings (tunnel_by domain (Some flow) numbers packet)) [] visits)
     flow-records numbers packet visits of_seq room =
         let d = direct_of flow kind seq in
         let tunnel = tunnel_by domain (Some flow) numbers packet in
-        let is = is_direct flow sound within kind id seq direct of_id below in
-        let its = has_its flow sound within kind id seq direct of_id below in
-        let on = bits flow sound within kind id seq direct of_id below in
+        let is = is_direct flow sound kind id seq direct of_id below in
+        let its = has_its flow sound kind id seq direct of_id below in
+        let on = bits flow sound kind id seq direct of_id below in
         along-records tunnel d flow.hops is its
-        (recorded domain readings d flow.hops id seq is its of_id refl within.hops_below on.0 on.1 tunnel (ap₂ (direct_parts flow) direct of_seq) refl)
+        (recorded domain readings d flow.hops id seq is its of_id refl sound.hops_below on.0 on.1 tunnel (ap₂ (direct_parts flow) direct of_seq) refl)
         [] visits room
 
 -- ---- those of a run
 
 module _ (domain : Domain) (readings : List (List Sample)) (frames : List Frame) (fates : List Fate) (told : IsTold domain readings frames fates) where
-  numbered-records : (flow : Flow) (numbers : Numbers) (packet : List ℕ) (visits : List Visit) (count : ℕ) (seq : Option ℕ) → IsFlow flow → IsWithin flow
+  numbered-records : (flow : Flow) (numbers : Numbers) (packet : List ℕ) (visits : List Visit) (count : ℕ) (seq : Option ℕ) → IsFlow flow
       → numbers.direct ≡ direct_number flow.direct flow.every count → count < 4294967296 → numbers.direct ≡ seq → AllByRecursion HasRoom visits
       → AllByRecursion IsRecord (along (recorded_at domain readings (tunnel_by domain (Some flow) numbers packet)) [] visits)
-  numbered-records flow numbers packet visits count None sound within drawn below is room =
+  numbered-records flow numbers packet visits count None sound drawn below is room =
       let none = ap (direct_parts flow flow.direct) is ∙ parts_none flow flow.direct in
       subst (AllByRecursion IsRecord) (sym (along_none domain readings (tunnel_by domain (Some flow) numbers packet) none [] visits)) tt
-  numbered-records flow numbers packet visits count (Some seq) sound within drawn below is room =
+  numbered-records flow numbers packet visits count (Some seq) sound drawn below is room =
       let given = sym drawn ∙ is in
       let asked = numbered flow.direct flow.every count seq given in
       let kind = some_is flow.direct asked in
       let id = some_is flow.flow_id (sound.direct_id ∙ asked) in
       let small = (number_is flow.direct flow.every count seq given).3 in
-      flow-records domain readings flow sound within kind.0 id.0 seq kind.1 id.1 (omega (arith, small, below)) numbers packet visits is room
+      flow-records domain readings flow sound kind.0 id.0 seq kind.1 id.1 (omega (arith, small, below)) numbers packet visits is room
 
   records-by : (i : ℕ) (fate : Fate) (carried : Option (FlowId × Numbers)) → slice_get fates i ≡ Some fate → fate.itinerary.carried ≡ carried
       → AllByRecursion IsRecord (records_by domain readings fate.packet fate.itinerary.visits carried)
@@ -124,14 +124,13 @@ module _ (domain : Domain) (readings : List (List Sample)) (frames : List Frame)
       let run = told.run in
       let k = known_at domain readings frames fates run i fate id numbers there is in
       let flow = k.is.flow in
-      let within = within_at domain readings frames fates run id flow k.is.found in
       let few = k.is.few in
-      let hops = within.hops_below in
-      let room = visits_at domain told.faces readings [] frames fates i fate id numbers run.become (recursion_from_All IsTimely frames told.timely) there is
+      let hops = k.is.sound.hops_below in
+      let room = visits_at domain readings [] frames fates i fate id numbers run.become (recursion_from_All IsTimely frames told.timely) there is
       (omega (arith, few, hops)) in
       let P : Option Flow → Type 0 = λ o. AllByRecursion IsRecord (along (recorded_at domain readings (tunnel_by domain o numbers fate.packet)) [] fate.itinerary.visits) in
       subst P (sym k.is.found)
-      (numbered-records flow numbers fate.packet fate.itinerary.visits k.count numbers.direct k.is.sound within k.is.direct k.below refl room)
+      (numbered-records flow numbers fate.packet fate.itinerary.visits k.count numbers.direct k.is.sound k.is.direct k.below refl room)
 
   pub all-records : AllByRecursion IsRecord (exports_of domain readings fates)
   all-records = all_flat IsRecord (path_of domain readings) fates (λ i fate there. records-by i fate fate.itinerary.carried there refl)

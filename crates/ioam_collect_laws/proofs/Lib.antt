@@ -1,6 +1,5 @@
 mod EnclosedLaws
 pub mod ExportLaws
-pub mod FacesLaws
 mod FewLaws
 mod FlowsLaws
 pub mod FrontLaws
@@ -12,4 +11,3 @@ mod TextLaws
 mod TimesLaws
 mod TrailLaws
 pub mod WholeLaws
-pub mod WithinLaws

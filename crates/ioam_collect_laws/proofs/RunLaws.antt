@@ -1,7 +1,6 @@
 -- The arrivals of a run by their keys.
 use Rattle.std.proofs.Common.{◌≡◌, ℕ, ◌-◌, ◌*◌, true, List, [], ◌∷◌, ◌++◌, length, Option, Some, None, slice_get, refl, sym, ap, ap₂, ◌∙◌, subst, arith}
 use Rattle.std.specs.Prelude.{is_some, unwrap_or}
-use Rattle.std.proofs.lemmas.List.Elements.{recursion_from_All}
 use Rattle.ioam_run_texts.specs.Along.{along}
 use Rattle.ioam_run_texts.specs.Sample.{Sample}
 use Rattle.ioam_collect.specs.declared.key.Key.{Key}
@@ -20,8 +19,8 @@ use Rattle.ioam_run_texts.specs.Wire.{Tunnel}
 use Rattle.ioam_run_texts.specs.Numbers.{Numbers}
 use Rattle.ioam_run_texts.specs.Exports.{records_of}
 use Rattle.ioam_run_texts.specs.Visits.{part_records}
-use Rattle.ioam_collect_laws.specs.Paths.{IsRun, IsWithin, carried_key, flow_key, key_for, key_of, path_of, recorded_at, records_by}
-use Rattle.ioam_collect_laws.proofs.EnclosedLaws.{Encloses, Known, all_get, known, same_place}
+use Rattle.ioam_collect_laws.specs.Paths.{IsRun, carried_key, flow_key, key_for, key_of, path_of, recorded_at, records_by}
+use Rattle.ioam_collect_laws.proofs.EnclosedLaws.{Encloses, Known, known, same_place}
 use Rattle.ioam_collect_laws.proofs.TrailLaws.{IsTrail, key_parts, number_is, some_is, trail_of}
 
 -- a flow without direct export, or a packet without a number, exports nothing
@@ -52,15 +51,12 @@ module _ (domain : Domain) (readings : List (List Sample)) (frames : List Frame)
       let most = domain.packets_most in
       record { count = k.count; is = k.is; no_less = omega arith; below = omega (arith, below, few, most) }
 
-  pub within_at : (id : FlowId) (flow : Flow) → slice_get (flows domain) id.0 ≡ Some flow → IsWithin flow
-  within_at id flow found = all_get IsWithin (flows domain) id.0 flow (recursion_from_All IsWithin (flows domain) run.within) found
-
   trail_by : (i : ℕ) (fate : Fate) (key : Key) (carried : Option (FlowId × Numbers)) → slice_get fates i ≡ Some fate → fate.itinerary.carried ≡ carried
       → carried_key domain carried ≡ Some key → IsTrail key (records_by domain readings fate.packet fate.itinerary.visits carried)
   trail_by i fate key None there is its = absurd (cc its)
   trail_by i fate key (Some (id, numbers)) there is its =
       let k = known_at i fate id numbers there is in
-      trail_of domain readings fate.packet fate.itinerary id numbers k.count k.is k.below (within_at id k.is.flow k.is.found) key its
+      trail_of domain readings fate.packet fate.itinerary id numbers k.count k.is k.below key its
 
   -- the records of an arrival with a key have this key, and their hop values fall
   pub trail_at : (i : ℕ) (fate : Fate) (key : Key) → slice_get fates i ≡ Some fate → key_of domain fate ≡ Some key

@@ -23,7 +23,7 @@ use Rattle.ioam_run_texts.specs.JourneyStep.{JourneyStep}
 use Rattle.ioam_run_texts.specs.JourneyStep.TheVariants.{Goes, Ends}
 use Rattle.ioam_run_texts.specs.Trip.{Trip}
 use Rattle.ioam_topo.specs.Domain.{flows, links, ports}
-use Rattle.ioam_topo.specs.Sound.{IsLink}
+use Rattle.ioam_topo.specs.Sound.{IsLink, IsPort}
 use Rattle.ioam_topo.specs.declared.domain.Domain.{Domain}
 use Rattle.ioam_topo.specs.declared.ids.FlowId.{FlowId}
 use Rattle.ioam_topo.specs.declared.ids.LinkId.{LinkId}
@@ -34,16 +34,16 @@ use Rattle.ioam_topo.specs.declared.parts.Link.{Link}
 use Rattle.ioam_topo.specs.declared.parts.Port.{Port}
 use Rattle.ioam_run_texts.specs.Numbers.{Numbers}
 use Rattle.ioam_run_texts.proofs.FateLaws.{plans_of}
-use Rattle.ioam_collect_laws.specs.Exported.{HasFaces, IsTimely}
+use Rattle.ioam_collect_laws.specs.Exported.{IsTimely}
 use Rattle.ioam_collect_laws.proofs.EnclosedLaws.{all_get, none_carried}
 
 -- a record has room for the visit
 abbrev pub HasRoom : Visit → Type 0
-HasRoom visit = (visit.time < 18446744073709551616) × (visit.place.inward < 4294967296)
+HasRoom visit = (visit.time < 2 ^ 64) × (visit.place.inward < 2 ^ 32)
 
 -- no later than this, by an interface of 32 bits
 abbrev IsSpot : ℕ → JourneySpot → Type 0
-IsSpot time spot = (spot.time ≤ time) × (spot.inward < 4294967296)
+IsSpot time spot = (spot.time ≤ time) × (spot.inward < 2 ^ 32)
 
 abbrev IsHeld : ℕ → Stage → Type 0
 IsHeld time (Enter spot entry) = IsSpot time spot
@@ -52,27 +52,26 @@ IsHeld time (Gone port) = ⊤
 IsHeld time (Out node inside) = ⊤
 
 abbrev IsVisitBy : ℕ → Visit → Type 0
-IsVisitBy time visit = (visit.time ≤ time) × (visit.place.inward < 4294967296)
+IsVisitBy time visit = (visit.time ≤ time) × (visit.place.inward < 2 ^ 32)
 
 -- a step leads to a stage no later than the longest delay of a link after
 abbrev Holds : ℕ → JourneyStep → Type 0
 Holds time (Goes visit next) = IsVisitBy time visit × IsHeld (time + 1000000000) next
 Holds time (Ends end exited) = ⊤
 
-crossed_held : (xs : List Link) (at time hops : ℕ) (spot : JourneySpot) → AllByRecursion IsLink xs → AllByRecursion (λ (link : Link). link.in_id < 4294967296) xs
+crossed_held : (xs : List Link) (at time hops : ℕ) (spot : JourneySpot) → AllByRecursion IsLink xs
     → IsSpot time spot → IsSpot (time + 1000000000) (crossed spot hops (slice_get xs at))
-crossed_held [] at time hops spot sound faces is = let early = is.0 in (omega (arith, early), is.1)
-crossed_held (x ∷ xs) zero time hops spot sound faces is =
+crossed_held [] at time hops spot sound is = let early = is.0 in (omega (arith, early), is.1)
+crossed_held (x ∷ xs) zero time hops spot sound is =
     let early = is.0 in
     let most = sound.0.delay_most in
-    (omega (arith, early, most), faces.0)
-crossed_held (x ∷ xs) (suc at) time hops spot sound faces is = crossed_held xs at time hops spot sound.1 faces.1 is
+    (omega (arith, early, most), sound.0.in_below)
+crossed_held (x ∷ xs) (suc at) time hops spot sound is = crossed_held xs at time hops spot sound.1 is
 
-module _ (domain : Domain) (faces : HasFaces domain) where
+module _ (domain : Domain) where
   across_held : (link : LinkId) (time hops : ℕ) (spot : JourneySpot) → IsSpot time spot → IsSpot (time + 1000000000) (crossed spot hops (slice_get (links domain) link.0))
   across_held link time hops spot is =
-      crossed_held (links domain) link.0 time hops spot (recursion_from_All IsLink (links domain) domain.sound_links.sound)
-      (recursion_from_All (λ (l : Link). l.in_id < 4294967296) (links domain) faces.links_below) is
+      crossed_held (links domain) link.0 time hops spot (recursion_from_All IsLink (links domain) domain.sound_links.sound) is
 
   led_held : (w : Way) (time hops : ℕ) (spot : JourneySpot) → IsSpot time spot → IsHeld (time + 1000000000) (led domain spot hops w)
   led_held (way.Link link) time hops spot is = across_held link time hops spot is
@@ -104,7 +103,7 @@ module _ (domain : Domain) (faces : HasFaces domain) where
     step_holds (Out node found) time is = tt
 
     visits_held : (from : Stage) (visits : List Visit) (last : Stage) (time : ℕ) → IsHeld time from → Reaches domain trip from visits last
-        → time + length visits * 1000000000 < 18446744073709551616 → AllByRecursion HasRoom visits
+        → time + length visits * 1000000000 < 2 ^ 64 → AllByRecursion HasRoom visits
     visits_held from [] last time is reaches fits = tt
     visits_held from (visit ∷ visits) last time is reaches fits =
         let step : Holds time (Goes visit reaches.0) = subst (Holds time) reaches.1 (step_holds from time is) in
@@ -113,7 +112,7 @@ module _ (domain : Domain) (faces : HasFaces domain) where
 
   module _ (readings : List (List Sample)) (earlier : List Itinerary) (time : ℕ) (it : Itinerary) (id : FlowId) (numbers : Numbers)
       (some : it.carried ≡ Some (id, numbers)) (short : length it.visits ≤ 256) (timely : time < 2 ^ 62) where
-    of_flow : (from : Port) (other : FlowId) (flow : Flow) (packet : List ℕ) (limit : Option ℕ) → from.id < 4294967296
+    of_flow : (from : Port) (other : FlowId) (flow : Flow) (packet : List ℕ) (limit : Option ℕ) → from.id < 2 ^ 32
         → PlansFlow domain readings (enclosed_in other.0 earlier) from time other flow packet limit it → AllByRecursion HasRoom it.visits
     of_flow from other flow packet limit face plans =
         let drawn : Numbers = numbers_of domain readings flow (enclosed_in other.0 earlier) limit time in
@@ -122,13 +121,13 @@ module _ (domain : Domain) (faces : HasFaces domain) where
         visits_held t.target t.size inside (Enter (start_of from time plans.header.hops) (entry_of flow limit)) it.visits plans.journey.last time
         (omega arith, face) plans.journey.reaches (omega (arith, short, timely))
 
-    by_flow : (from : Port) (other : FlowId) (flow : Option Flow) (packet : List ℕ) (limit : Option ℕ) → from.id < 4294967296
+    by_flow : (from : Port) (other : FlowId) (flow : Option Flow) (packet : List ℕ) (limit : Option ℕ) → from.id < 2 ^ 32
         → IsSomeAnd flow (λ f. PlansFlow domain readings (enclosed_in other.0 earlier) from time other f packet limit it)
         → AllByRecursion HasRoom it.visits
     by_flow from other None packet limit face plans = absurd plans
     by_flow from other (Some flow) packet limit face plans = of_flow from other flow packet limit face plans
 
-    by_answer : (from : Port) (answer : Admit) → from.id < 4294967296 → PlansBy domain readings earlier time it answer from → AllByRecursion HasRoom it.visits
+    by_answer : (from : Port) (answer : Admit) → from.id < 2 ^ 32 → PlansBy domain readings earlier time it answer from → AllByRecursion HasRoom it.visits
     by_answer from (admit.Plain packet) face plans = absurd (cc (sym some ∙ plans.journey.carried ∙ none_carried it.visits))
     by_answer from (admit.Drop reason) face plans = absurd (cc (sym some ∙ plans.carried))
     by_answer from (admit.Enclose other packet limit) face plans = by_flow from other (slice_get (flows domain) other.0) packet.now limit face plans
@@ -137,9 +136,7 @@ module _ (domain : Domain) (faces : HasFaces domain) where
         → IsSomeAnd from (PlansBy domain readings earlier time it answer) → AllByRecursion HasRoom it.visits
     by_port at None answer found plans = absurd plans
     by_port at (Some from) answer found plans =
-        by_answer from answer
-        (all_get (λ (p : Port). p.id < 4294967296) (ports domain) at from (recursion_from_All (λ (p : Port). p.id < 4294967296) (ports domain) faces.ports_below) found)
-        plans
+        by_answer from answer (all_get IsPort (ports domain) at from (recursion_from_All IsPort (ports domain) domain.sound_ports.sound) found).id_below plans
 
   -- those of a packet that arrives in time and is enclosed
   pub visits_at : (readings : List (List Sample)) (earlier : List Itinerary) (frames : List Frame) (fates : List Fate) (i : ℕ) (fate : Fate) (id : FlowId) (numbers : Numbers)

@@ -1,7 +1,8 @@
 -- The records of an arrival that carries direct export: all have its key, and their hop values fall.
-use Rattle.std.proofs.Common.{◌≡◌, ℕ, ◌+◌, ◌-◌, ◌*◌, ◌/◌, ◌%◌, ◌<◌, ◌≤◌, zero, suc, Bool, true, false, cond, not, ◌&&◌, ◌||◌, List, [], ◌∷◌, ◌++◌, length, length-append, Option, Some, None, IfSome, slice_get, refl, sym, ap, ap₂, ◌∙◌, subst, arith}
+use Rattle.std.proofs.Common.{◌≡◌, ℕ, ◌+◌, ◌-◌, ◌*◌, ◌/◌, ◌%◌, ◌<◌, ◌≤◌, ◌^◌, zero, suc, Bool, true, false, cond, not, ◌&&◌, ◌||◌, List, [], ◌∷◌, ◌++◌, length, length-append, Option, Some, None, IfSome, slice_get, refl, sym, ap, ap₂, ◌∙◌, subst, arith}
 use Rattle.std.specs.Prelude.{is_some, unwrap_or, ◌==◌}
 use Rattle.std.specs.List.{AllByRecursion}
+use Rattle.std.specs.Option.{ForSome}
 use Rattle.std.proofs.Math.Nat.{div-le_self}
 use Rattle.std.proofs.lemmas.Nat.{div-add-mod'}
 use Rattle.std.proofs.lemmas.Bool.{and_parts, eqb-true}
@@ -38,7 +39,7 @@ use Rattle.ioam_run_texts.specs.Seeing.{id_of, view_of}
 use Rattle.ioam_run_texts.specs.Step.{knows}
 use Rattle.ioam_run_texts.specs.Visits.{part_records}
 use Rattle.ioam_run_texts.proofs.RecordsLaws.{records-direct}
-use Rattle.ioam_collect_laws.specs.Paths.{IsWithin, flow_key, key_for, recorded_at}
+use Rattle.ioam_collect_laws.specs.Paths.{flow_key, key_for, recorded_at}
 use Rattle.ioam_collect_laws.proofs.EnclosedLaws.{Encloses}
 use Rattle.ioam_collect_laws.proofs.HopLaws.{hops-read}
 
@@ -257,15 +258,19 @@ number_is (Some kind) (Some e) count seq is = by_test (count % e == 0) refl is w
       (e, refl, omega (arith, whole, rest, times), omega (arith, less, its))
   by_test false zero_is same = absurd (cc same)
 
-module _ (flow : Flow) (sound : IsFlow flow) (within : IsWithin flow) (kind id seq : ℕ) (direct : flow.direct ≡ Some kind) (of_id : flow.flow_id ≡ Some id)
+pub if_some : (P : ℕ → Type 0) (o : Option ℕ) → ForSome o P → IfSome o P
+if_some P None all = tt
+if_some P (Some x) all = all x refl
+
+module _ (flow : Flow) (sound : IsFlow flow) (kind id seq : ℕ) (direct : flow.direct ≡ Some kind) (of_id : flow.flow_id ≡ Some id)
     (seq_below : seq < 4294967296) where
   pub is_direct : IsDirect (direct_of flow kind seq)
   is_direct = record {
-    namespace_below = within.namespace_below;
+    namespace_below = sound.namespace_below;
     flags_below = omega arith;
     ext_below = omega arith;
-    kind_below = subst (λ (o : Option ℕ). IfSome o (λ k. k < 16777216)) direct within.direct_below;
-    flow_below = within.id_below;
+    kind_below = sound.direct_below kind direct;
+    flow_below = if_some (λ id. id < 2 ^ 32) flow.flow_id sound.id_below;
     seq_below = seq_below;
   }
 
@@ -283,11 +288,11 @@ module _ (flow : Flow) (sound : IsFlow flow) (within : IsWithin flow) (kind id s
       → length visits ≤ flow.hops + 1
       → IsTrail (record { namespace = flow.namespace; flow = id; seq = seq }) (along (recorded_at domain readings (tunnel_by domain (Some flow) numbers packet)) [] visits)
   flow-trail domain readings numbers packet visits of_seq fits =
-      path-trail domain readings (direct_of flow kind seq) flow.hops id seq is_direct has_its of_id refl within.hops_below bits.0 bits.1
+      path-trail domain readings (direct_of flow kind seq) flow.hops id seq is_direct has_its of_id refl sound.hops_below bits.0 bits.1
       (tunnel_by domain (Some flow) numbers packet) (ap₂ (direct_parts flow) direct of_seq) refl visits fits
 
 module _ (domain : Domain) (readings : List (List Sample)) (packet : List ℕ) (it : Itinerary) (id : FlowId) (numbers : Numbers) (count : ℕ)
-    (is : Encloses domain it id numbers count) (below : count < 4294967296) (within : IsWithin is.flow) where
+    (is : Encloses domain it id numbers count) (below : count < 4294967296) where
   trail_by : (key : Key) → key_for is.flow.namespace is.flow.flow_id numbers.direct ≡ Some key
       → IsTrail key (along (recorded_at domain readings (tunnel_by domain (Some is.flow) numbers packet)) [] it.visits)
   trail_by key its =
@@ -300,7 +305,7 @@ module _ (domain : Domain) (readings : List (List Sample)) (packet : List ℕ) (
       let number = number_is is.flow.direct is.flow.every count s (sym is.direct ∙ of_seq) in
       let small = number.3 in
       subst (λ k. IsTrail k (along (recorded_at domain readings (tunnel_by domain (Some is.flow) numbers packet)) [] it.visits)) parts.4
-      (flow-trail is.flow is.sound within kind.0 f s kind.1 of_id (omega (arith, small, below)) domain readings numbers packet it.visits of_seq is.few)
+      (flow-trail is.flow is.sound kind.0 f s kind.1 of_id (omega (arith, small, below)) domain readings numbers packet it.visits of_seq is.few)
 
   pub trail_of : (key : Key) → flow_key (slice_get (flows domain) id.0) numbers.direct ≡ Some key
       → IsTrail key (along (recorded_at domain readings (tunnel_of domain id numbers packet)) [] it.visits)

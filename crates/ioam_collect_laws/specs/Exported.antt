@@ -13,25 +13,18 @@ use Rattle.ioam_dex.specs.Record.{Record, record_octets}
 use Rattle.ioam_run_texts.specs.Fate.{Frame, Fate}
 use Rattle.ioam_run_texts.specs.Texts.{exports_text}
 use Rattle.ioam_pool.specs.Entry.{Entry}
-use Rattle.ioam_topo.specs.Domain.{links, ports}
 use Rattle.ioam_topo.specs.declared.domain.Domain.{Domain}
 use Rattle.ioam_collect_laws.specs.Paths.{IsAlone, IsRun, exports_of, key_of, path_of, under}
 
 -- ---- what a record has room for
 
--- the interfaces by which packets come have 32 bits
-pub record HasFaces (domain : Domain) : Type 0 where
-  pub ports_below : All (λ port. port.id < 4294967296) (ports domain)
-  pub links_below : All (λ link. link.in_id < 4294967296) (links domain)
-
 -- an arrival's time is below 2^62 nanoseconds, as that of each record that is read of a capture
 abbrev pub IsTimely : Frame → Type 0
 IsTimely frame = frame.entry.time < 2 ^ 62
 
--- a run whose times and interfaces a record has room for
+-- a run whose times a record has room for
 pub record IsTold (domain : Domain) (readings : List (List Sample)) (frames : List Frame) (fates : List Fate) : Type 0 where
   pub run : IsRun domain readings frames fates
-  pub faces : HasFaces domain
   pub timely : All IsTimely frames
 
 -- ---- the octets

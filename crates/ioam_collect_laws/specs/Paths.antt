@@ -1,7 +1,7 @@
 -- What the export records of a run tell of its arrivals: each packet that carries direct export, its key, and its path
 -- as far as records of it were read (RFC 9326 section 3.2).
-use Rattle.std.specs.Prelude.{◌≡◌, ℕ, ◌<◌, ◌≤◌, ◌⊎◌, List, [], ◌∷◌, length, map, Contains, Option, None, Some, IfSome, slice_get}
-use Rattle.std.specs.List.{All, flat_map}
+use Rattle.std.specs.Prelude.{◌≡◌, ℕ, ◌≤◌, ◌⊎◌, List, [], ◌∷◌, length, map, Contains, Option, None, Some, slice_get}
+use Rattle.std.specs.List.{flat_map}
 use Rattle.ioam_run_texts.specs.Along.{along}
 use Rattle.ioam_run_texts.specs.Ran.{passed}
 use Rattle.ioam_run_texts.specs.Sample.{Sample}
@@ -119,16 +119,8 @@ pub record AreRegrouped (domain : Domain) (readings : List (List Sample)) (fates
 
 -- ---- the run
 
--- a flow's numbers are within their types: its namespace 16 bits, its hop limit 8, the type of its direct export 24, its id 32
-pub record IsWithin (flow : Flow) : Type 0 where
-  pub namespace_below : flow.namespace.0 < 65536
-  pub hops_below : flow.hops < 256
-  pub direct_below : IfSome flow.direct (λ kind. kind < 16777216)
-  pub id_below : IfSome flow.flow_id (λ id. id < 4294967296)
-
 -- this is what becomes of the arrivals of a run through the domain, which are no more than it takes
 pub record IsRun (domain : Domain) (readings : List (List Sample)) (frames : List Frame) (fates : List Fate) : Type 0 where
-  pub within : All IsWithin (flows domain)
   pub few : length frames ≤ domain.packets
   pub become : AreFates domain readings frames fates
 

@@ -2,14 +2,10 @@
 #![tactic(auto)]
 
 ghost use Rattle.std.specs.Prelude.{List, ℕ};
-ghost use Rattle.std.specs.List.{All};
 ghost use Rattle.ioam_dex.specs.Record.{Record};
-ghost use Rattle.ioam_topo_file.specs.File.{IsDomainOf};
-ghost use Rattle.ioam_collect_laws.specs.Exported.{ExportsAreRead, FrontsAreRead, HasFaces, TellsRun};
+ghost use Rattle.ioam_collect_laws.specs.Exported.{ExportsAreRead, FrontsAreRead, TellsRun};
 ghost use Rattle.ioam_collect_laws.specs.Flows.{AreOfFlows};
-ghost use Rattle.ioam_collect_laws.specs.Paths.{IsWithin, Regroups};
-ghost use Rattle.ioam_topo.specs.Domain.{flows};
-ghost use Rattle.ioam_topo.specs.declared.domain.Domain.{Domain};
+ghost use Rattle.ioam_collect_laws.specs.Paths.{Regroups};
 
 /// Says that the records of a run regroup to the paths of its packets (RFC 9326 section 3.2).
 pub fn records_regroup()
@@ -35,14 +31,4 @@ pub fn exports_tell_paths()
 /// records of its visits have the flow's fields and that number (RFC 9326 section 3.2).
 pub fn records_are_of_flows()
     ensures { AreOfFlows }
-{}
-
-/// Says that the numbers of the flows of a file's domain are within their types, as the laws above ask.
-pub fn flows_are_within()
-    ensures { (octets : List ℕ) (domain : Domain) → IsDomainOf octets domain → All IsWithin (flows domain) }
-{}
-
-/// Says that the interfaces of a file's domain have 32 bits, as the laws of what is read ask.
-pub fn faces_are_within()
-    ensures { (octets : List ℕ) (domain : Domain) → IsDomainOf octets domain → HasFaces domain }
 {}

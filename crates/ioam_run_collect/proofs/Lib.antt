@@ -4,8 +4,6 @@ mod CollectLaws
 pub use Rattle.ioam_collect.proofs.CountLaws
 pub use Rattle.ioam_collect.proofs.JoinLaws
 pub use Rattle.ioam_collect_laws.proofs.ExportLaws
-pub use Rattle.ioam_collect_laws.proofs.FacesLaws
 pub use Rattle.ioam_collect_laws.proofs.FrontLaws
 pub use Rattle.ioam_collect_laws.proofs.ReadLaws
 pub use Rattle.ioam_collect_laws.proofs.WholeLaws
-pub use Rattle.ioam_collect_laws.proofs.WithinLaws

@@ -16,7 +16,6 @@ use Rattle.ioam_run_answer.specs.Record.{IsRecord, Record}
 use Rattle.ioam_run_answer.proofs.ReadsLaws.{Splits-feed, cut-no-record}
 use Rattle.ioam_run_domain.specs.Promise as run
 use Rattle.ioam_run_domain.specs.Promise.{HoldsFiles, IsReady, RunNames, course_for}
-use Rattle.ioam_run_files.specs.File.{IsDomainOf}
 use Rattle.ioam_run_arrivals.specs.Fate.{AreFates, Fate, Frame}
 use Rattle.ioam_run_arrivals.specs.Texts.{exports_text, report_text}
 use Rattle.ioam_report_groups.specs.GroupsText.{records_text}
@@ -29,11 +28,9 @@ use Rattle.ioam_desk_outputs.specs.Held.{HoldFronts, HoldsFront}
 use Rattle.ioam_run_collect.specs.Exported.{AreFirst, AreFirstOfRun, IsTimely, IsTold, ending_with}
 use Rattle.ioam_run_collect.specs.Paths.{AreOfRun, exports_of}
 use Rattle.ioam_run_collect.proofs.ExportLaws.{reads-run}
-use Rattle.ioam_run_collect.proofs.FacesLaws.{domain_faces}
 use Rattle.ioam_run_collect.proofs.FrontLaws.{first_among}
 use Rattle.ioam_run_collect.proofs.ReadLaws.{regrouped}
 use Rattle.ioam_run_collect.proofs.WholeLaws.{fronts-read, whole_paths}
-use Rattle.ioam_run_collect.proofs.WithinLaws.{domain_within}
 use Rattle.ioam_run_collect.specs.Gathering.{AreFew, AreWhole, IsPast, Passes}
 use Rattle.ioam_topo.specs.declared.domain.Domain.{Domain}
 use Rattle.ioam_run_domain.specs.Traffic as traffic
@@ -211,11 +208,6 @@ last_held old new a b x y c d t u held opened =
 
 -- ---- of a run
 
-held_domain : (content : Option (List ℕ)) (domain : Domain) → IsSomeAnd content (λ octets. IsDomainOf octets domain)
-    → (octets : List ℕ) × IsDomainOf octets domain
-held_domain None domain is = absurd is
-held_domain (Some octets) domain is = (octets, is)
-
 module _ (opens : Bool) (files : RunNames) (old_in new_in : Reading) (old new : Writing) where
   module _ (domain : Domain) (readings : List (List Sample)) (ready : IsReady old files domain readings) where
     abbrev course : Course
@@ -224,14 +216,11 @@ module _ (opens : Bool) (files : RunNames) (old_in new_in : Reading) (old new : 
     is_told : (taken : List Arrival) (fates : List Fate) → length taken ≤ domain.packets → All traffic.IsTimely taken
         → AreFates domain readings (frames_of course.ports taken) fates → IsTold domain readings (frames_of course.ports taken) fates
     is_told taken fates few timely become =
-        let of = held_domain (holds old files.domain) domain ready.set.has_domain in
         let size : length (frames_of course.ports taken) ≡ length taken = length-map taken (frame_of course.ports) in record {
           run = record {
-            within = domain_within of.0 domain of.1;
             few = omega (arith, few, size);
             become = become;
           };
-          faces = domain_faces of.0 domain of.1;
           timely = All-map IsTimely (frame_of course.ports) taken timely;
         }
 
