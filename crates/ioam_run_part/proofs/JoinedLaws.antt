@@ -24,7 +24,7 @@ use Rattle.ioam_run_part.specs.Telling.{Puts, PutsPart}
 use Rattle.ioam_stream.specs.declared.conversion.Tail.{Tail}
 use Rattle.ioam_stream.specs.declared.conversion.Tail.TheVariants as tail
 use Rattle.ioam_run_part.specs.declared.joined.Joined.{Joined}
-use Rattle.ioam_run_part.specs.MergePromise.{IsMerged}
+use Rattle.ioam_run_part.specs.MergePromise.{IsMerged, IsUnion}
 use Rattle.ioam_run_part.specs.Records.{IsPartOfAll, KeepFew}
 use Rattle.ioam_run_part.specs.Stored.{Stores, answer_of}
 
@@ -32,21 +32,27 @@ use Rattle.ioam_run_part.specs.Stored.{Stores, answer_of}
 pub of_part : (octets : List ℕ) (xs : List Record) → IsPart octets xs → IsPartOfAll xs octets
 of_part octets xs part = record { records = xs; part = part; same = sym (pairs_groups (keyed xs) ∙ apart_kept (keyed xs) part.in_order.apart) }
 
+joins : (one two both : List ℕ) (xs ys : List Record) → IsPart one xs → IsPart two ys → IsPartOfAll (xs ++ ys) both → JoinsTo one two both
+joins one two both xs ys first second all =
+    record { firsts = xs; seconds = ys; first = first; second = second; joined = subst (λ ps. PartOf both (groups_of ps)) (keyed-append xs ys) all }
+
 pub merged : (one two both : List ℕ) (xs ys : List Record) → IsPart one xs → IsPart two ys → IsPartOfAll (xs ++ ys) both → IsMerged one two both
-merged one two both xs ys first second all =
-    let joins : JoinsTo one two both = record { firsts = xs; seconds = ys; first = first; second = second; joined = subst (λ ps. PartOf both (groups_of ps)) (keyed-append xs ys) all } in
-    record {
-      joins = joins;
-      alone = λ other there. joined_only one two other both xs ys (of_part one xs first) (of_part two ys second) there all;
-      of_all = λ us vs of_one of_two. joined_is one two both us vs of_one of_two joins;
-      swaps = λ other there. sym (joined_swaps one two both other joins there);
-      associates = λ three all back other a b c. joined_associates one two three both back all other joins a b c;
-      repeats = λ same. joined_repeats one both (subst (λ o. JoinsTo one o both) (sym same) joins);
-      equal = λ us vs of_one of_two. (
-        (λ same. groups_same one (keyed us) (keyed vs) of_one (subst (λ o. PartOf o (groups_of (keyed vs))) (sym same) of_two)),
-        (λ same. part_same one two (groups_of (keyed us)) of_one (subst (PartOf two) (sym same) of_two)),
-      );
-    }
+merged one two both xs ys first second all = record {
+  joins = joins one two both xs ys first second all;
+  alone = λ other there. joined_only one two other both xs ys (of_part one xs first) (of_part two ys second) there all;
+}
+
+pub union : (one two both : List ℕ) → JoinsTo one two both → IsUnion one two both
+union one two both joins = record {
+  of_all = λ us vs of_one of_two. joined_is one two both us vs of_one of_two joins;
+  swaps = λ other there. sym (joined_swaps one two both other joins there);
+  associates = λ three all back other a b c. joined_associates one two three both back all other joins a b c;
+  repeats = λ same. joined_repeats one both (subst (λ o. JoinsTo one o both) (sym same) joins);
+  equal = λ us vs of_one of_two. (
+    (λ same. groups_same one (keyed us) (keyed vs) of_one (subst (λ o. PartOf o (groups_of (keyed vs))) (sym same) of_two)),
+    (λ same. part_same one two (groups_of (keyed us)) of_one (subst (PartOf two) (sym same) of_two)),
+  );
+}
 
 -- the part of both was written, or a front of it
 pub written : (tells : Bool) (name : List ℕ) (xs ys : List Record) (old new : Writing) (text : List ℕ) (r : Result (Unit {0}) DeskFault) → KeepFew xs ys

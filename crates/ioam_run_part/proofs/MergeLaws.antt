@@ -14,11 +14,11 @@ use Rattle.ioam_run_answer.specs.declared.outcome.Outcome.{Outcome}
 use Rattle.ioam_run_answer.specs.declared.outcome.Outcome.TheVariants as outcome
 use Rattle.ioam_run_part.specs.Files.{MergeNames, AreApart, IsRepeat}
 use Rattle.ioam_run_part.specs.Joined.{HoldsBoth, HoldsBothFront, WritesJoined}
-use Rattle.ioam_run_part.specs.MergePromise.{HoldsMerged, HoldsMergedFront, MergeAsked, MergeCause, MergeKeeps, MergeLeaves, OpensNoPart, one_held, two_held}
-use Rattle.ioam_run_part.specs.Records.{HoldBoth, AreParts, KeepFew, KeepMany}
+use Rattle.ioam_run_part.specs.MergePromise.{HoldsMerged, HoldsMergedFront, IsMerged, MergeAsked, MergeCause, MergeKeeps, MergeLeaves, OpensNoPart, one_held, two_held}
+use Rattle.ioam_run_part.specs.Records.{HoldBoth, AreParts, IsPartOfAll, KeepFew, KeepMany}
 use Rattle.ioam_run_part.specs.Two.{AnswersTwo, TriesTwo, HoldsTwo, OpensUpTo, RefusesTwo}
 use Rattle.ioam_run_part.proofs.FileLaws.{none_asked}
-use Rattle.ioam_run_part.proofs.JoinedLaws.{merged}
+use Rattle.ioam_run_part.proofs.JoinedLaws.{merged, union}
 use Rattle.ioam_run_part.proofs.MergeAskedLaws.{merge_asked}
 
 pub some_held : (o : Option (List ℕ)) (octets : List ℕ) (P : List ℕ → Type 0) → o ≡ Some octets → P octets → IsSomeAnd o P
@@ -181,11 +181,15 @@ module _ (desks : Desks) (files : MergeNames) where
     parts_are : (P : List Record → List Record → Type 0) → P xs ys → AreParts P a b
     parts_are P are = record { firsts = xs; seconds = ys; first = holds_two.first_held.part; second = holds_two.second_held.part; are = are }
 
+    merged_of : (text : List ℕ) → IsPartOfAll (xs ++ ys) text → IsMerged a b text
+    merged_of text part = merged a b text xs ys holds_two.first_held.part holds_two.second_held.part part
+
     merged_whole : IsTrue desks.tells → HoldsBoth desks.tells files.part xs ys desks.old desks.new
         → HoldBoth (one_held desks files) (two_held desks files) (HoldsMerged desks.new files.part)
     merged_whole told held = hold_both (HoldsMerged desks.new files.part) told (record {
       both = held.text;
-      merged = merged a b held.text xs ys holds_two.first_held.part holds_two.second_held.part held.part;
+      merged = merged_of held.text held.part;
+      union = union a b held.text (merged_of held.text held.part).joins;
       held = held.held told;
     })
 
@@ -193,7 +197,8 @@ module _ (desks : Desks) (files : MergeNames) where
         → HoldBoth (one_held desks files) (two_held desks files) (HoldsMergedFront desks.old desks.new files.part)
     merged_front told held = hold_both (HoldsMergedFront desks.old desks.new files.part) told (record {
       both = held.text;
-      merged = merged a b held.text xs ys holds_two.first_held.part holds_two.second_held.part held.part;
+      merged = merged_of held.text held.part;
+      union = union a b held.text (merged_of held.text held.part).joins;
       held = held.held told;
     })
 

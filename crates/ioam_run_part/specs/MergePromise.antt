@@ -48,12 +48,14 @@ module _ (tells : Bool) (first second : Option (List ℕ)) (one two part : List 
 
 -- ---- what PART holds afterwards
 
--- The octets are what two parts join to: the part of what either has, and no other octets are. Of the parts of any records it is
--- the part of all these. So joining is commutative, associative and idempotent, and two parts are equal octets exactly where
--- their groups are equal.
+-- the octets are what two parts join to, the part of what either has, and no other octets are
 pub record IsMerged (one two both : List ℕ) : Type 0 where
   pub joins : JoinsTo one two both
   pub alone : (other : List ℕ) → JoinsTo one two other → other ≡ both
+
+-- Joining is a union. Of the parts of any records it is the part of all these; it is commutative, associative and idempotent; and
+-- two parts are equal octets exactly if their groups are equal.
+pub record IsUnion (one two both : List ℕ) : Type 0 where
   pub of_all : (xs ys : List Record) → IsPartOfAll xs one → IsPartOfAll ys two → IsPartOfAll (xs ++ ys) both
   pub swaps : (other : List ℕ) → JoinsTo two one other → other ≡ both
   pub associates : (three all back other : List ℕ) → JoinsTo both three all → JoinsTo two three back → JoinsTo one back other → all ≡ other
@@ -64,12 +66,14 @@ pub record IsMerged (one two both : List ℕ) : Type 0 where
 pub record HoldsMerged (new : Writing) (part : List ℕ) (one two : List ℕ) : Type 0 where
   pub both : List ℕ
   pub merged : IsMerged one two both
+  pub union : IsUnion one two both
   pub held : holds new part ≡ Some both
 
 -- PART, where it was opened, is a front of that
 pub record HoldsMergedFront (old new : Writing) (part : List ℕ) (one two : List ℕ) : Type 0 where
   pub both : List ℕ
   pub merged : IsMerged one two both
+  pub union : IsUnion one two both
   pub held : old.side.slots < new.side.slots → IsSomeAnd (holds new part) (λ front. IsFront front both)
 
 -- What PART holds afterwards, where the desk tells: what ONE and TWO join to, or a front of that; or nothing was opened for writing.
