@@ -9,8 +9,8 @@ use Rattle.ioam_ipfix.specs.declared.fault.IpfixFault.{IpfixFault}
 use Rattle.ioam_ipfix.specs.declared.fault.IpfixFault.TheVariants as fault
 use Rattle.ioam_base.specs.Chain.{Chain, Stops, IsFunctional}
 use Rattle.ioam_ipfix.specs.Sets.{Spot, spot, SetPasses}
-use Rattle.ioam_ipfix.specs.Messages.{joined, IsWhole, message_of, MessagePasses, IsCut}
-use Rattle.ioam_ipfix.specs.Faults.{IsStuck, IsStuckInside, IsBadHead, HasFault}
+use Rattle.ioam_ipfix.specs.Messages.{joined, IsWhole, message_of, MessagePasses, IsCutMessage}
+use Rattle.ioam_ipfix.specs.Faults.{IsStuck, IsStuckInside, IsBadHead, HasMessageFault}
 use Rattle.ioam_base.proofs.ChainLaws.{Chain-unique, Chain-moved}
 use Rattle.ioam_ipfix.proofs.SetLaws.{set-functional, nothing-stops, stuck-stops, stuck-unique}
 
@@ -50,25 +50,25 @@ head-unique octets f g (inr x) (inl y) = absurd (y.1 x.1)
 head-unique octets f g (inr x) (inr y) = x.3 ∙ sym y.3
 
 -- a message has one fault
-pub fault-unique : (a : Spot) (f g : IpfixFault) → HasFault a f → HasFault a g → f ≡ g
+pub fault-unique : (a : Spot) (f g : IpfixFault) → HasMessageFault a f → HasMessageFault a g → f ≡ g
 fault-unique a f g (inl x) (inl y) = head-unique a.octets f g x y
 fault-unique a f g (inl x) (inr y) = absurd (head-not-whole a.octets f x y.0)
 fault-unique a f g (inr x) (inl y) = absurd (head-not-whole a.octets g y x.0)
 fault-unique a f g (inr x) (inr y) = inside-unique a.known (message_of a.octets) f g x.1 y.1
 
-pub fault-stops : (a : Spot) (f : IpfixFault) → HasFault a f → Stops MessagePasses a
+pub fault-stops : (a : Spot) (f : IpfixFault) → HasMessageFault a f → Stops MessagePasses a
 fault-stops a f (inl bad) xs b one = head-not-whole a.octets f bad one.whole
 fault-stops a f (inr bad) xs b one = passes-not-stuck a.known (message_of a.octets) one.sets b.known f one.leads bad.1
 
-cut-not-whole : (octets : List ℕ) → IsCut octets → IsWhole octets → ⊥
+cut-not-whole : (octets : List ℕ) → IsCutMessage octets → IsWhole octets → ⊥
 cut-not-whole octets (inl few) whole = let begins = whole.begins in omega (arith, few, begins)
 cut-not-whole octets (inr (is, inl few)) whole = let begins = whole.begins in omega (arith, few, begins)
 cut-not-whole octets (inr (is, inr few)) whole = let there = whole.there in let less = few.1 in omega (arith, less, there)
 
-pub cut-stops : (a : Spot) → IsCut a.octets → Stops MessagePasses a
+pub cut-stops : (a : Spot) → IsCutMessage a.octets → Stops MessagePasses a
 cut-stops a cut xs b one = cut-not-whole a.octets cut one.whole
 
-pub cut-not-faulty : (a : Spot) (f : IpfixFault) → IsCut a.octets → HasFault a f → ⊥
+pub cut-not-faulty : (a : Spot) (f : IpfixFault) → IsCutMessage a.octets → HasMessageFault a f → ⊥
 cut-not-faulty a f cut (inr bad) = cut-not-whole a.octets cut bad.0
 cut-not-faulty a f (inl few) (inl (inl bad)) = let many = bad.0 in omega (arith, few, many)
 cut-not-faulty a f (inl few) (inl (inr bad)) = let many = bad.0 in omega (arith, few, many)
@@ -76,7 +76,7 @@ cut-not-faulty a f (inr cut) (inl (inl bad)) = bad.1 cut.0
 cut-not-faulty a f (inr (is, inl few)) (inl (inr bad)) = let many = bad.0 in omega (arith, few, many)
 cut-not-faulty a f (inr (is, inr few)) (inl (inr bad)) = let least = few.0 in let low = bad.2 in omega (arith, least, low)
 
-pub fault-inside : (a : Spot) (f : IpfixFault) → HasFault a f → 0 < length a.octets
+pub fault-inside : (a : Spot) (f : IpfixFault) → HasMessageFault a f → 0 < length a.octets
 fault-inside a f (inl (inl bad)) = let many = bad.0 in omega (arith, many)
 fault-inside a f (inl (inr bad)) = let many = bad.0 in omega (arith, many)
 fault-inside a f (inr bad) = let many = bad.0.begins in omega (arith, many)
@@ -132,7 +132,7 @@ pub messages-behind : (more : List ℕ) (a : Spot) (xs : List (List Record)) (b 
     → Chain MessagePasses (spot a.known (a.octets ++ more)) xs (spot b.known (b.octets ++ more))
 messages-behind more a xs b leads = Chain-moved MessagePasses (λ s. spot s.known (s.octets ++ more)) (λ p x q one. message-behind more p x q one) a xs b leads
 
-pub fault-behind : (more : List ℕ) (a : Spot) (f : IpfixFault) → HasFault a f → HasFault (spot a.known (a.octets ++ more)) f
+pub fault-behind : (more : List ℕ) (a : Spot) (f : IpfixFault) → HasMessageFault a f → HasMessageFault (spot a.known (a.octets ++ more)) f
 fault-behind more a f (inl bad) = inl (head-behind a.octets more f bad)
 fault-behind more a f (inr bad) = inr (
   whole-behind a.octets more bad.0,

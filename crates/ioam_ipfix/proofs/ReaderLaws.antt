@@ -9,7 +9,7 @@ use Rattle.ioam_ipfix.specs.Sets.{spot}
 use Rattle.ioam_ipfix.specs.Messages.{joined, MessagePasses, IpfixOf}
 use Rattle.ioam_ipfix.specs.Reads.{Ending, Whole, Faulty, Reads, ReadsOnly}
 use Rattle.ioam_ipfix.specs.Reading.{Reading, OwesFew, place_of, fresh, held, while_due, with_due, with_piece}
-use Rattle.ioam_ipfix.specs.Reader.{Stands, Waits, IsFaulty, Keeps, Takes, GoesOver, ReadsSo}
+use Rattle.ioam_ipfix.specs.Reader.{AreOfLast, Stands, Waits, IsFaulty, Keeps, Takes, GoesOver, ReadsSo}
 use Rattle.ioam_base.proofs.ChainLaws.{Chain-push}
 use Rattle.ioam_ipfix.proofs.MessageLaws.{fault-stops, cut-stops, messages-behind}
 use Rattle.ioam_ipfix.proofs.ReadsLaws.{Reads-unique, Reads-faulty}
@@ -49,15 +49,12 @@ fed-exact piece old new rest all =
 
 pub Stands-fresh : Stands fresh [] []
 Stands-fresh = record {
-  before = [];
-  last = [];
+  messages = [];
   leads = refl;
   count = refl;
   inside = refl;
-  single = omega arith;
-  here = [];
-  gave = refl;
-  owes = refl;
+  gives = refl;
+  late = inl refl;
   few = record { few = omega arith; among = omega arith; none = λ none. refl };
 }
 
@@ -67,57 +64,51 @@ pub Stands-feed : (reader : Reading) (piece octets : List ℕ) (given : List Rec
 Stands-feed reader piece octets given stands =
     let inside = stands.inside in
     record {
-      before = stands.before;
-      last = stands.last;
-      leads = messages-behind piece (spot none_known octets) (stands.before ++ stands.last) (place_of reader) stands.leads;
+      messages = stands.messages;
+      leads = messages-behind piece (spot none_known octets) stands.messages (place_of reader) stands.leads;
       count = stands.count;
       inside = omega (arith, inside, length-append reader.pending piece, length-append octets piece);
-      single = stands.single;
-      here = stands.here;
-      gave = stands.gave;
-      owes = stands.owes;
+      gives = stands.gives;
+      late = stands.late;
       few = OwesFew-piece piece reader stands.few;
     }
 
 -- where nothing is due, all records of the messages taken were given
-given-all : (reader : Reading) (octets : List ℕ) (given : List Record) (stands : Stands reader octets given) → reader.due ≡ [] → given ≡ joined (stands.before ++ stands.last)
-given-all reader octets given stands none =
-    let here : stands.here ≡ joined stands.last = sym (append-nil stands.here) ∙ ap (λ xs. stands.here ++ xs) (sym none) ∙ stands.owes in
-    stands.gave ∙ ap (λ xs. joined stands.before ++ xs) here ∙ sym (joined-append stands.before stands.last)
+given-all : (reader : Reading) (octets : List ℕ) (given : List Record) (stands : Stands reader octets given) → reader.due ≡ [] → given ≡ joined stands.messages
+given-all reader octets given stands none = sym (append-nil given) ∙ ap (λ xs. given ++ xs) (sym none) ∙ sym stands.gives
 
 -- a message more was taken
 pub Stands-takes : (old new : Reading) → Takes old new → Keeps old new
 Stands-takes old new takes octets given stands =
-    let messages = stands.before ++ stands.last in
+    let messages = stands.messages in
     let count = takes.count in
     let had = stands.count in
     let inside = takes.fed in
     record {
-      before = messages;
-      last = new.due ∷ [];
+      messages = messages ++ new.due ∷ [];
       leads = Chain-push MessagePasses (spot none_known octets) messages (place_of old) new.due (place_of new) stands.leads takes.passes;
       count = omega (arith, count, had, length-append messages (new.due ∷ []));
       inside = inside ∙ stands.inside;
-      single = omega arith;
-      here = [];
-      gave = given-all old octets given stands takes.none ∙ sym (append-nil (joined messages));
-      owes = sym (append-nil new.due);
+      gives = joined-append messages (new.due ∷ []) ∙ ap (λ xs. joined messages ++ xs) (append-nil new.due)
+          ∙ ap (λ xs. xs ++ new.due) (sym (given-all old octets given stands takes.none));
+      late = inr (messages, new.due, refl, omega arith);
       few = takes.few;
     }
+
+last-less : (messages : List (List Record)) (x : Record) (xs due : List Record) → due ≡ x ∷ xs → AreOfLast messages due → AreOfLast messages xs
+last-less messages x xs due is (inl none) = let size = ap length (sym is ∙ none) in absurd (omega (arith, size))
+last-less messages x xs due is (inr (earlier, last, all, few)) = let size = ap length is in inr (earlier, last, all, omega (arith, few, size))
 
 -- a record was given
 pub Stands-gives : (old : Reading) (x : Record) (xs : List Record) → old.due ≡ x ∷ xs → (octets : List ℕ) (given : List Record) → Stands old octets given
     → Stands (with_due xs old) octets (given ++ x ∷ [])
 Stands-gives old x xs due octets given stands = record {
-  before = stands.before;
-  last = stands.last;
+  messages = stands.messages;
   leads = stands.leads;
   count = stands.count;
   inside = stands.inside;
-  single = stands.single;
-  here = stands.here ++ x ∷ [];
-  gave = ap (λ ys. ys ++ x ∷ []) stands.gave ∙ append_assoc (joined stands.before) stands.here (x ∷ []);
-  owes = append_assoc stands.here (x ∷ []) xs ∙ ap (λ ys. stands.here ++ ys) (sym due) ∙ stands.owes;
+  gives = stands.gives ∙ ap (λ ys. given ++ ys) due ∙ sym (append_assoc given (x ∷ []) xs);
+  late = last-less stands.messages x xs old.due due stands.late;
   few = OwesFew-due xs old stands.few;
 }
 
@@ -181,7 +172,7 @@ goes-gives old mid x xs goes due = record {
 pub says-more : (reader : Reading) → Waits reader → (octets : List ℕ) (given : List Record) → Stands reader octets given
     → (messages : List (List Record)) × IpfixOf octets messages (place_of reader) × (given ≡ joined messages) × (reader.messages ≡ length messages)
 says-more reader waits octets given stands =
-    (stands.before ++ stands.last, record { leads = stands.leads; stops = cut-stops (place_of reader) waits.1 }, given-all reader octets given stands waits.0, stands.count)
+    (stands.messages, record { leads = stands.leads; stops = cut-stops (place_of reader) waits.1 }, given-all reader octets given stands waits.0, stands.count)
 
 place-is : (reader : Reading) (octets : List ℕ) (given : List Record) → Stands reader octets given → reader.start ≡ length octets - length reader.pending
 place-is reader octets given stands = let inside = stands.inside in omega (arith, inside)
@@ -191,7 +182,7 @@ pub says-bad : (reader : Reading) (f : IpfixFault) → IsFaulty reader f → (oc
     → (messages : List (List Record)) × (given ≡ joined messages) × (reader.messages ≡ length messages)
     × ((more : List ℕ) → Reads (octets ++ more) messages (Faulty reader.start f)) × ((more : List ℕ) → ReadsOnly (octets ++ more) messages (Faulty reader.start f))
 says-bad reader f bad octets given stands =
-    let messages = stands.before ++ stands.last in
+    let messages = stands.messages in
     let reads : (more : List ℕ) → Reads (octets ++ more) messages (Faulty reader.start f) =
     λ more. subst (λ n. Reads (octets ++ more) messages (Faulty n f)) (sym (place-is reader octets given stands))
     (Reads-faulty octets messages (place_of reader) f stands.leads bad.1 more) in (
@@ -205,7 +196,7 @@ says-bad reader f bad octets given stands =
 -- where nothing is left the input is whole
 pub reads-whole : (reader : Reading) → Waits reader → reader.pending ≡ [] → (octets : List ℕ) (given : List Record) → Stands reader octets given → ReadsSo octets given Whole
 reads-whole reader waits none octets given stands =
-    let messages = stands.before ++ stands.last in
+    let messages = stands.messages in
     let reads : Reads octets messages Whole = record { rest = place_of reader; leads = stands.leads; ends = none } in
     (messages, given-all reader octets given stands waits.0, reads, λ others other also. Reads-unique octets others messages other Whole also reads)
 
@@ -213,7 +204,7 @@ reads-whole reader waits none octets given stands =
 pub reads-cut : (reader : Reading) → Waits reader → 0 < length reader.pending → (octets : List ℕ) (given : List Record) → Stands reader octets given
     → ReadsSo octets given (Faulty reader.start (fault.Short (length reader.pending)))
 reads-cut reader waits some octets given stands =
-    let messages = stands.before ++ stands.last in
+    let messages = stands.messages in
     let ending : Ending = Faulty reader.start (fault.Short (length reader.pending)) in
     let reads : Reads octets messages ending = record {
       rest = place_of reader;

@@ -6,7 +6,7 @@ use Rattle.ioam_base.specs.Chain.{Chain, Stops}
 use Rattle.ioam_ipfix.specs.Templates.{none_known}
 use Rattle.ioam_ipfix.specs.Sets.{Spot, spot}
 use Rattle.ioam_ipfix.specs.Messages.{MessagePasses, IpfixOf}
-use Rattle.ioam_ipfix.specs.Faults.{HasFault}
+use Rattle.ioam_ipfix.specs.Faults.{HasMessageFault}
 use Rattle.ioam_ipfix.specs.Reads.{Ending, Whole, Faulty, IsShort, EndsAt, Reads}
 use Rattle.ioam_base.proofs.ChainLaws.{Chain-unique}
 use Rattle.ioam_ipfix.proofs.MessageLaws.{message-functional, fault-unique, fault-stops, cut-stops, cut-not-faulty, fault-inside, messages-behind, fault-behind}
@@ -14,7 +14,7 @@ use Rattle.ioam_ipfix.proofs.MessageLaws.{message-functional, fault-unique, faul
 pub nothing-stops : (rest : Spot) → rest.octets ≡ [] → Stops MessagePasses rest
 nothing-stops rest none = cut-stops rest (inl (let size = ap length none in omega (arith, size)))
 
-faulty-stops : (rest : Spot) (f : IpfixFault) → HasFault rest f ⊎ IsShort rest.octets f → Stops MessagePasses rest
+faulty-stops : (rest : Spot) (f : IpfixFault) → HasMessageFault rest f ⊎ IsShort rest.octets f → Stops MessagePasses rest
 faulty-stops rest f (inl bad) = fault-stops rest f bad
 faulty-stops rest f (inr short) = cut-stops rest short.0
 
@@ -22,17 +22,17 @@ ends-stops : (at : ℕ) (rest : Spot) (d : Ending) → EndsAt at rest d → Stop
 ends-stops at rest Whole none = nothing-stops rest none
 ends-stops at rest (Faulty place f) ends = faulty-stops rest f ends.1
 
-faults-unique : (rest : Spot) (f g : IpfixFault) → HasFault rest f ⊎ IsShort rest.octets f → HasFault rest g ⊎ IsShort rest.octets g → f ≡ g
+faults-unique : (rest : Spot) (f g : IpfixFault) → HasMessageFault rest f ⊎ IsShort rest.octets f → HasMessageFault rest g ⊎ IsShort rest.octets g → f ≡ g
 faults-unique rest f g (inl x) (inl y) = fault-unique rest f g x y
 faults-unique rest f g (inl x) (inr y) = absurd (cut-not-faulty rest f y.0 x)
 faults-unique rest f g (inr x) (inl y) = absurd (cut-not-faulty rest g x.0 y)
 faults-unique rest f g (inr x) (inr y) = x.2 ∙ sym y.2
 
-faulty-some : (rest : Spot) (f : IpfixFault) → HasFault rest f ⊎ IsShort rest.octets f → 0 < length rest.octets
+faulty-some : (rest : Spot) (f : IpfixFault) → HasMessageFault rest f ⊎ IsShort rest.octets f → 0 < length rest.octets
 faulty-some rest f (inl bad) = fault-inside rest f bad
 faulty-some rest f (inr short) = short.1
 
-whole-or-faulty : (rest : Spot) (f : IpfixFault) → rest.octets ≡ [] → HasFault rest f ⊎ IsShort rest.octets f → ⊥
+whole-or-faulty : (rest : Spot) (f : IpfixFault) → rest.octets ≡ [] → HasMessageFault rest f ⊎ IsShort rest.octets f → ⊥
 whole-or-faulty rest f none bad = let some = faulty-some rest f bad in let size = ap length none in omega (arith, some, size)
 
 ends-unique : (at : ℕ) (rest : Spot) (d e : Ending) → EndsAt at rest d → EndsAt at rest e → d ≡ e
@@ -59,7 +59,7 @@ IpfixOf-unique octets xs ys r s one other =
     Chain-unique MessagePasses message-functional (spot none_known octets) xs r ys s one.leads one.stops other.leads other.stops
 
 -- octets with a fault end there, whatever stands behind
-pub Reads-faulty : (octets : List ℕ) (xs : List (List Record)) (rest : Spot) (f : IpfixFault) → Chain MessagePasses (spot none_known octets) xs rest → HasFault rest f
+pub Reads-faulty : (octets : List ℕ) (xs : List (List Record)) (rest : Spot) (f : IpfixFault) → Chain MessagePasses (spot none_known octets) xs rest → HasMessageFault rest f
     → (more : List ℕ) → Reads (octets ++ more) xs (Faulty (length octets - length rest.octets) f)
 Reads-faulty octets xs rest f leads bad more = record {
   rest = spot rest.known (rest.octets ++ more);

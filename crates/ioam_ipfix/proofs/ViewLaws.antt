@@ -8,8 +8,8 @@ use Rattle.ioam_base.specs.Octets.{u16_at}
 use Rattle.ioam_dex.specs.Record.{Record}
 use Rattle.ioam_ipfix.specs.declared.place.Place.{Place}
 use Rattle.ioam_ipfix.specs.declared.fault.IpfixFault.{IpfixFault}
-use Rattle.ioam_ipfix.specs.Faults.{IsStuckInside, IsBadHead, HasFault}
-use Rattle.ioam_ipfix.specs.Messages.{IsWhole, MessagePasses, IsCut}
+use Rattle.ioam_ipfix.specs.Faults.{IsStuckInside, IsBadHead, HasMessageFault}
+use Rattle.ioam_ipfix.specs.Messages.{IsWhole, MessagePasses, IsCutMessage}
 use Rattle.ioam_ipfix.specs.Places.{AllPlaces, records_at}
 use Rattle.ioam_ipfix.specs.Reading.{Reading, fed, held, place_of, while_due, with_due, with_piece}
 use Rattle.ioam_ipfix.specs.Reader.{Waits, IsFaulty, Takes}
@@ -285,14 +285,14 @@ module _ (octets kept : Kept) (size : ℕ) (known : List Bool) (messages : ℕ) 
   place-is : spot known pending ≡ place_of old
   place-is = ap₂ spot (ap (λ (r : Reading). r.known) view) pending-is
 
-  pub waits-by : IsCut pending × (length pending < 65535) → Waits old
-  waits-by cut = (none, subst IsCut pending-is cut.0, subst (λ o. length o < 65535) pending-is cut.1)
+  pub waits-by : IsCutMessage pending × (length pending < 65535) → Waits old
+  waits-by cut = (none, subst IsCutMessage pending-is cut.0, subst (λ o. length o < 65535) pending-is cut.1)
 
   pub faulty-head : (f : IpfixFault) → IsBadHead pending f → IsFaulty old f
-  faulty-head f bad = (none, subst (λ a. HasFault a f) place-is (inl bad))
+  faulty-head f bad = (none, subst (λ a. HasMessageFault a f) place-is (inl bad))
 
   pub faulty-inside : (n : ℕ) → IsWhole pending × (n ≡ u16_at pending 2) × (n < 65536) → (f : IpfixFault) → IsStuckInside known (take n pending) f → IsFaulty old f
-  faulty-inside n whole f bad = (none, subst (λ a. HasFault a f) place-is (inr (whole.0, subst (λ k. IsStuckInside known (take k pending) f) whole.1 bad)))
+  faulty-inside n whole f bad = (none, subst (λ a. HasMessageFault a f) place-is (inr (whole.0, subst (λ k. IsStuckInside known (take k pending) f) whole.1 bad)))
 
 -- the message that stands there was taken
 pub taken-by : (octets kept : Kept) (size n : ℕ) (known behind : List Bool) (messages : ℕ) (due places : List Place) (pending : List ℕ)

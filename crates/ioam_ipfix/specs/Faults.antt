@@ -57,5 +57,5 @@ IsBadHead octets f = ((2 ≤ length octets) × (u16_at octets 0 ≢ 10) × (f �
     ⊎ ((4 ≤ length octets) × (u16_at octets 0 ≡ 10) × (u16_at octets 2 < 16) × (f ≡ fault.Length (u16_at octets 2)))
 
 -- the message that is due has this fault, whatever stands behind the octets
-abbrev pub HasFault : Spot → IpfixFault → Type 0
-HasFault a f = IsBadHead a.octets f ⊎ (IsWhole a.octets × IsStuckInside a.known (message_of a.octets) f)
+abbrev pub HasMessageFault : Spot → IpfixFault → Type 0
+HasMessageFault a f = IsBadHead a.octets f ⊎ (IsWhole a.octets × IsStuckInside a.known (message_of a.octets) f)

@@ -32,8 +32,8 @@ pub record MessagePasses (a : Spot) (xs : List Record) (b : Spot) : Type 0 where
   pub records : xs ≡ joined sets
 
 -- what stands in front is not whole, and has no fault so far
-abbrev pub IsCut : List ℕ → Type 0
-IsCut octets = (length octets < 2) ⊎ ((u16_at octets 0 ≡ 10)
+abbrev pub IsCutMessage : List ℕ → Type 0
+IsCutMessage octets = (length octets < 2) ⊎ ((u16_at octets 0 ≡ 10)
     × ((length octets < 4) ⊎ ((16 ≤ u16_at octets 2) × (length octets < u16_at octets 2))))
 
 -- The octets are whole messages without a fault, with these records message by message, and a rest that begins with

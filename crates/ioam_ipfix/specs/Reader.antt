@@ -12,34 +12,34 @@ use Rattle.ioam_ipfix.specs.contracts.reader.IpfixReader.{the_row}
 use Rattle.ioam_base.specs.Chain.{Chain}
 use Rattle.ioam_ipfix.specs.Templates.{none_known}
 use Rattle.ioam_ipfix.specs.Sets.{spot}
-use Rattle.ioam_ipfix.specs.Messages.{joined, MessagePasses, IsCut, IpfixOf}
-use Rattle.ioam_ipfix.specs.Faults.{HasFault}
+use Rattle.ioam_ipfix.specs.Messages.{joined, MessagePasses, IsCutMessage, IpfixOf}
+use Rattle.ioam_ipfix.specs.Faults.{HasMessageFault}
 use Rattle.ioam_ipfix.specs.Reads.{Ending, Whole, Faulty, Reads, ReadsOnly}
 use Rattle.ioam_ipfix.specs.Reading.{Reading, OwesFew, place_of, fed, held, with_due}
 
--- A reader that was fed these octets in all, in whatever pieces, and has given these records: it has taken messages one
--- behind the other; what it gave is the records of those before the last and the first of the last, of which the others
--- are due. Of what it took it owes the octets of the last alone, while a record of it is due.
+-- no record is due, or those that are due are of the last message
+abbrev pub AreOfLast : List (List Record) → List Record → Type 0
+AreOfLast messages due = (due ≡ []) ⊎ ((earlier : List (List Record)) × (last : List Record) × (messages ≡ earlier ++ last ∷ []) × (length due ≤ length last))
+
+-- A reader was fed these octets in all, in whatever pieces, and has given these records. It has taken messages, one after the other;
+-- their records are those that it gave and those that are due. It keeps the octets of the last message while a record of it is due.
 pub record Stands (reader : Reading) (octets : List ℕ) (given : List Record) : Type 0 where
-  pub before : List (List Record)
-  pub last : List (List Record)
-  pub leads : Chain MessagePasses (spot none_known octets) (before ++ last) (place_of reader)
-  pub count : reader.messages ≡ length (before ++ last)
+  pub messages : List (List Record)
+  pub leads : Chain MessagePasses (spot none_known octets) messages (place_of reader)
+  pub count : reader.messages ≡ length messages
   pub inside : fed reader ≡ length octets
-  pub single : length last ≤ 1
-  pub here : List Record
-  pub gave : given ≡ joined before ++ here
-  pub owes : here ++ reader.due ≡ joined last
+  pub gives : joined messages ≡ given ++ reader.due
+  pub late : AreOfLast messages reader.due
   pub few : OwesFew reader
 
 -- all records of the messages taken were given, and what is due then is not whole and has no fault: more octets have to
 -- be fed, or the input ends; fewer octets than a message can have are left
 abbrev pub Waits : Reading → Type 0
-Waits reader = (reader.due ≡ []) × IsCut reader.pending × (length reader.pending < 65535)
+Waits reader = (reader.due ≡ []) × IsCutMessage reader.pending × (length reader.pending < 65535)
 
 -- all were given, and the message that is due then has this fault
 abbrev pub IsFaulty : Reading → IpfixFault → Type 0
-IsFaulty reader fault = (reader.due ≡ []) × HasFault (place_of reader) fault
+IsFaulty reader fault = (reader.due ≡ []) × HasMessageFault (place_of reader) fault
 
 -- such a fault stays
 abbrev pub KeepsFault : Reading → Reading → Type 0
@@ -135,11 +135,16 @@ SaysFault old new step = (fault : IpfixFault) → IsFaulty old fault → (step �
 abbrev pub SaysDue : Reading → Reading → IpfixStep → Type 0
 SaysDue old new step = (x : Record) (xs : List Record) → old.due ≡ x ∷ xs → (shown step ≡ x ∷ []) × (new ≡ with_due xs old)
 
--- what a step tells: it keeps as many octets as before, and the record that it gives is the first of the last message that
--- it took, if it took any
-abbrev pub Tells : Reading → Reading → IpfixStep → Type 0
-Tells old new step = Rested new step × (fed new ≡ fed old) × ((octets : List ℕ) (given : List Record) → Stands old octets given → Told octets given new step)
-    × SaysFault old new step × SaysDue old new step × (held new ≡ held old) × GoesOver old new (shown step)
+-- What a step tells. `goes` says that no record is lost and none taken early: the record that it gives was due, or is the first of
+-- the last message that it took.
+pub record Tells (old new : Reading) (step : IpfixStep) : Type 0 where
+  pub rested : Rested new step
+  pub fed : fed new ≡ fed old
+  pub told : (octets : List ℕ) (given : List Record) → Stands old octets given → Told octets given new step
+  pub fault : SaysFault old new step
+  pub due : SaysDue old new step
+  pub held : held new ≡ held old
+  pub goes : GoesOver old new (shown step)
 
 -- so the reader is once the step's octets are no longer lent
 abbrev pub RestsSo : MutBor Reading → IpfixStep → Fml

@@ -14,7 +14,7 @@ use Rattle.ioam_base.specs.Chain.{Chain, Stops}
 use Rattle.ioam_ipfix.specs.Templates.{tells_flow, tells_seq, with_templates}
 use Rattle.ioam_ipfix.specs.Data.{front_of, prefix_at, size_at, data_size, data_at, HasRoom}
 use Rattle.ioam_ipfix.specs.Sets.{spot, set_kind, IsPadding, RecordPasses, HasRecords, TemplatePasses, HasTemplates, HoldsAs, SetPasses}
-use Rattle.ioam_ipfix.specs.Messages.{joined, IsWhole, IsCut}
+use Rattle.ioam_ipfix.specs.Messages.{joined, IsWhole, IsCutMessage}
 use Rattle.ioam_ipfix.specs.Faults.{IsStuckTemplate, IsBadHead}
 use Rattle.ioam_ipfix.specs.Places.{records_at, AllPlaces}
 
@@ -49,7 +49,7 @@ TellsTemplate octets (template_step.Bad f) = IsStuckTemplate octets f
 -- far; or its head has this fault
 abbrev pub TellsHead : List ℕ → HeadStep → Type 0
 TellsHead octets (head_step.Whole size) = IsWhole octets × (size ≡ u16_at octets 2) × (size < 65536)
-TellsHead octets head_step.Cut = IsCut octets × (length octets < 65535)
+TellsHead octets head_step.Cut = IsCutMessage octets × (length octets < 65535)
 TellsHead octets (head_step.Bad f) = IsBadHead octets f
 
 -- ---- what was found of a message: which templates are known behind it, and where its records stand

@@ -1,19 +1,14 @@
 -- How a reader of messages goes on.
-use Rattle.std.proofs.Common.{◌≡◌, ℕ, ◌<◌, ◌≤◌, List, [], ◌∷◌, ◌++◌, length, take, drop, length-append, length-drop, refl, sym, ap, ◌∙◌, subst, append_assoc, arith}
+use Rattle.std.proofs.Common.{◌≡◌, ℕ, ◌<◌, ◌≤◌, List, [], ◌∷◌, ◌++◌, length, take, drop, length-append, length-drop, refl, sym, ap, ◌∙◌, subst, arith}
 use Rattle.std.proofs.lemmas.List.{take-append-drop, take-append-le, length-take-le}
 use Rattle.ioam_base.specs.Chain.{Chain}
 use Rattle.ioam_dex.specs.Record.{Record}
 use Rattle.ioam_ipfix.specs.Messages.{joined, MessagePasses}
 use Rattle.ioam_ipfix.specs.Reading.{Reading, place_of}
-use Rattle.ioam_ipfix.specs.Reader.{GoesOver, Stands}
+use Rattle.ioam_ipfix.specs.Reader.{GoesOver}
 use Rattle.ioam_ipfix.specs.Sets.{Spot}
-use Rattle.ioam_run_ipfix.proofs.MessagesLaws.{joined-append, joined-longer}
+use Rattle.ioam_run_ipfix.proofs.MessagesLaws.{joined-longer}
 use Rattle.ioam_run_ipfix.proofs.SizeLaws.{chain-append, chain-split}
-
--- all records of the messages that a reader took were given, or are due
-pub all-given : (reader : Reading) (octets : List ℕ) (given : List Record) (stands : Stands reader octets given) → joined (stands.before ++ stands.last) ≡ given ++ reader.due
-all-given reader octets given stands = joined-append stands.before stands.last ∙ ap (λ xs. joined stands.before ++ xs) (sym stands.owes)
-    ∙ sym (append_assoc (joined stands.before) stands.here reader.due) ∙ ap (λ xs. xs ++ reader.due) (sym stands.gave)
 
 none-long : (xs : List Record) → length xs ≤ 0 → xs ≡ []
 none-long [] short = refl

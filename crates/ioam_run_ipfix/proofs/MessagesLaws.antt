@@ -4,7 +4,7 @@ use Rattle.ioam_base.specs.Chain.{Chain, Stops}
 use Rattle.ioam_dex.specs.Record.{Record}
 use Rattle.ioam_ipfix.specs.declared.fault.IpfixFault.{IpfixFault}
 use Rattle.ioam_ipfix.specs.Messages.{joined, MessagePasses}
-use Rattle.ioam_ipfix.specs.Faults.{HasFault}
+use Rattle.ioam_ipfix.specs.Faults.{HasMessageFault}
 use Rattle.ioam_ipfix.specs.Reads.{Ending, Whole, Faulty, IsShort, EndsAt, Reads}
 use Rattle.ioam_ipfix.specs.Sets.{Spot, spot}
 use Rattle.ioam_ipfix.specs.Templates.{none_known}
@@ -57,7 +57,7 @@ behind_front (x ∷ xs) (z ∷ ys) y m ms same =
     let rest = behind_front xs ys y m ms (cc) in
     (rest.0, ap (λ w. w ∷ ys) head ∙ ap (λ ws. x ∷ ws) rest.1)
 
-faulty-stops : (rest : Spot) (f : IpfixFault) → HasFault rest f ⊎ IsShort rest.octets f → Stops MessagePasses rest
+faulty-stops : (rest : Spot) (f : IpfixFault) → HasMessageFault rest f ⊎ IsShort rest.octets f → Stops MessagePasses rest
 faulty-stops rest f (inl bad) = fault-stops rest f bad
 faulty-stops rest f (inr short) = cut-stops rest short.0
 

@@ -49,7 +49,7 @@ chain-most a (x ∷ xs) b small (m, first, rest) =
 pub reader-room : (reader : Reading) (octets : List ℕ) (given : List Record) → Stands reader octets given → IsOctets octets → reader.messages ≤ most_messages → Waits reader
     → fed reader < 4397979533311
 reader-room reader octets given stands small few waits =
-    let most = chain-most (spot none_known octets) (stands.before ++ stands.last) (place_of reader) small stands.leads in
+    let most = chain-most (spot none_known octets) stands.messages (place_of reader) small stands.leads in
     let count = stands.count in
     let inside = stands.inside in
     let left = waits.2 in

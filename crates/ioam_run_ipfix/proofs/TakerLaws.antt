@@ -25,7 +25,7 @@ use Rattle.ioam_run_ipfix.specs.declared.taker.Shown.{Shown}
 use Rattle.ioam_run_ipfix.specs.declared.taker.Shown.TheVariants as shown
 use Rattle.ioam_run_ipfix.specs.declared.taker.Cause.{Cause}
 use Rattle.ioam_run_ipfix.specs.declared.taker.Cause.TheVariants as cause
-use Rattle.ioam_run_ipfix.proofs.GoesLaws.{all-given, goes-further}
+use Rattle.ioam_run_ipfix.proofs.GoesLaws.{goes-further}
 use Rattle.ioam_run_ipfix.proofs.MessagesLaws.{joined-append, stop-front}
 use Rattle.ioam_run_answer.proofs.CallLaws.{adds_one}
 use Rattle.ioam_run_ipfix.proofs.SizeLaws.{chain-append, octets-append, reader-room}
@@ -72,11 +72,11 @@ taker_room taker so = so.stands.room
 -- all records of the messages that the reader took are the first of the octets
 first_given : (reader : Reading) (octets : List ℕ) (records : List Record) → Stands reader octets records → AreFirst records octets
 first_given reader octets records stands = record {
-  messages = stands.before ++ stands.last;
+  messages = stands.messages;
   rest = place_of reader;
   begins = stands.leads;
   others = reader.due;
-  are = all-given reader octets records stands;
+  are = stands.gives;
 }
 
 pub taker_takes : (old new : Taker) (outputs : List Output) (d now : Output) (x : Record) → length outputs ≡ 1 → now.slot ≡ (get_or outputs 0 d).slot
@@ -173,7 +173,7 @@ taker_bad old new outputs at fault given why few bad = stops_by old new outputs 
 pub taker_messages : (old new : Taker) (outputs : List Output) (xs : List Record) → new.given ≡ old.given → new.cause ≡ cause.Messages → most_messages < new.reader.messages
     → Goes old.reader new.reader xs → TakesNone does old new outputs outputs
 taker_messages old new outputs xs given why many goes = stops_by old new outputs cause.Messages given why (λ end. end) (λ octets rest so_far s.
-    let all : List (List Record) = s.stands.before ++ s.stands.last in
+    let all : List (List Record) = s.stands.messages in
     let count = s.stands.count in
     let had = s.few_messages in
     let went = goes.over.count in
@@ -185,7 +185,7 @@ taker_messages old new outputs xs given why many goes = stops_by old new outputs
       | inr none ↦ let size = ap length none in absurd (omega (arith, size, more))
     ] in
     let are : s.records ≡ joined (all ++ further.front) =
-    sym (append-nil s.records) ∙ ap (λ ys. s.records ++ ys) (sym nothing) ∙ sym (all-given old.reader octets s.records s.stands)
+    sym (append-nil s.records) ∙ ap (λ ys. s.records ++ ys) (sym nothing) ∙ sym s.stands.gives
     ∙ sym (append-nil (joined all)) ∙ ap (λ ys. joined all ++ ys) (sym further.bare) ∙ sym (joined-append all further.front) in
     let few = s.few in
     let size = ap length are in
@@ -209,8 +209,8 @@ pub taker_records : (old new : Taker) (outputs : List Output) (x : Record) → n
     → Goes old.reader new.reader (x ∷ []) → TakesNone does old new outputs outputs
 taker_records old new outputs x given why most few_messages goes = stops_by old new outputs cause.Records given why (λ end. end) (λ octets rest so_far s.
     let now = goes.stands octets s.records s.stands in
-    let all : List (List Record) = now.before ++ now.last in
-    let are : joined all ≡ s.records ++ x ∷ new.reader.due = all-given new.reader octets (s.records ++ x ∷ []) now ∙ append_assoc s.records (x ∷ []) new.reader.due in
+    let all : List (List Record) = now.messages in
+    let are : joined all ≡ s.records ++ x ∷ new.reader.due = now.gives ∙ append_assoc s.records (x ∷ []) new.reader.due in
     let count = now.count in
     let few = s.few in
     let had = s.count in
@@ -237,7 +237,7 @@ taker_reads : (ending : Ending) (taker : Taker) (octets : List ℕ) (so_far : Li
 taker_reads ending taker octets so_far s waits read =
     let few = s.few in
     let size = ap length read.1 in
-    let all : List (List Record) = s.stands.before ++ s.stands.last in
+    let all : List (List Record) = s.stands.messages in
     let front = stop-front (spot none_known octets) all (place_of taker.reader) read.0 read.2.rest s.stands.leads (cut-stops (place_of taker.reader) waits.1) read.2.leads in
     let long = ap length front.1 in
     let parts = length-append read.0 front.0 in
@@ -272,14 +272,14 @@ taker_cut taker waits = record {
       let few = s.few in
       let count = s.stands.count in
       let most = s.few_messages in
-      let all : s.records ≡ joined (s.stands.before ++ s.stands.last) =
-      sym (append-nil s.records) ∙ ap (λ ys. s.records ++ ys) (sym waits.0) ∙ sym (all-given taker.reader octets s.records s.stands) in
+      let all : s.records ≡ joined s.stands.messages =
+      sym (append-nil s.records) ∙ ap (λ ys. s.records ++ ys) (sym waits.0) ∙ sym s.stands.gives in
       let size = ap length all in
       said_by taker.cause Handed taker octets octets so_far s (
         record {
           handed = octets;
           parts = sym (append-nil octets);
-          messages = s.stands.before ++ s.stands.last;
+          messages = s.stands.messages;
           rest = place_of taker.reader;
           begins = s.stands.leads;
           cut = waits.1;

@@ -2,7 +2,7 @@
 use Rattle.std.specs.Prelude.{◌≡◌, ℕ, ◌<◌, ◌≤◌, List, [], ◌∷◌, ◌++◌, length}
 use Rattle.ioam_base.specs.Chain.{Chain}
 use Rattle.ioam_dex.specs.Record.{Record, most_records}
-use Rattle.ioam_ipfix.specs.Messages.{joined, MessagePasses, IsCut}
+use Rattle.ioam_ipfix.specs.Messages.{joined, MessagePasses, IsCutMessage}
 use Rattle.ioam_ipfix.specs.Reads.{Ending, Reads}
 use Rattle.ioam_ipfix.specs.Sets.{Spot, spot}
 use Rattle.ioam_ipfix.specs.Templates.{none_known}
@@ -71,7 +71,7 @@ pub record AreWhole (left : List ℕ) (records : List Record) (octets : List ℕ
   pub messages : List (List Record)
   pub rest : Spot
   pub begins : BeginSo handed messages rest
-  pub cut : IsCut rest.octets
+  pub cut : IsCutMessage rest.octets
   pub within : AreWithin messages
   pub are : records ≡ joined messages
 

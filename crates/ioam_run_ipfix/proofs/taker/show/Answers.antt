@@ -24,11 +24,11 @@ returns-in-Record-clause-shows c =
 pub returns-in-More-clause-shows : goal.returns-in-More-clause-shows
 returns-in-More-clause-shows c =
     let told = rw c.in-More.is at c.show.follows.holds-at-none in
-    (told.0, record { over = told.6; fed = told.1; stands = λ o g s. (told.2 o g s).0 })
+    (told.rested, record { over = told.goes; fed = told.fed; stands = λ o g s. (told.told o g s).0 })
 
 pub returns-in-Bad-clause-shows : goal.returns-in-Bad-clause-shows
 returns-in-Bad-clause-shows c =
     let told = rw c.in-Bad.is at c.show.follows.holds-at-none in (
-      record { over = told.6; fed = told.1; stands = λ o g s. (told.2 o g s).0 },
-      λ all before stands. let says = (told.2 all before stands).1 in (says.0, says.1, says.2, says.3),
+      record { over = told.goes; fed = told.fed; stands = λ o g s. (told.told o g s).0 },
+      λ all before stands. let says = (told.told all before stands).1 in (says.0, says.1, says.2, says.3),
     )
