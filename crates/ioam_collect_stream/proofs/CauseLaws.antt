@@ -1,5 +1,5 @@
 -- What stopped the regrouping, and the answer that it becomes.
-use Rattle.std.proofs.Common.{◌≡◌, List, ℕ, [], ◌++◌, refl, ap, ◌∙◌, append-nil, inl, inr}
+use Rattle.std.proofs.Common.{List, ℕ, [], ◌++◌, refl, ap, ◌∙◌, append-nil, inl, inr}
 use Rattle.ioam_collect_stream.specs.Gathering.{AreWhole, IsLimit, most_of}
 use Rattle.ioam_collect_stream.specs.Regrouping.{IsEnd, answer_of}
 use Rattle.ioam_collect_stream.specs.declared.regrouping.Cause.{Cause}

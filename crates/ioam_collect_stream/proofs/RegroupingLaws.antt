@@ -5,7 +5,7 @@ use Rattle.std.proofs.lemmas.List.Elements.{All-nil, All-cons}
 use Rattle.ioam_collect.specs.Collected as collected
 use Rattle.ioam_collect.specs.Collected.{Collected}
 use Rattle.ioam_collect_stream.specs.Gathering.{AreFew, Gathers, Shows}
-use Rattle.ioam_collect_stream.specs.Regrouping.{AreFirst, AreOf, HasStopped, IsEnd, IsRegrouping, IsSaying, IsUnsaid, by_option, does}
+use Rattle.ioam_collect_stream.specs.Regrouping.{AreFirst, AreOf, HasStopped, IsEnd, IsSaying, IsUnsaid, by_option, does}
 use Rattle.ioam_collect_stream.specs.Report.{Begins, Puts, PutsPart}
 use Rattle.ioam_collect_stream.specs.declared.regrouping.Regrouping.{Regrouping}
 use Rattle.ioam_collect_stream.specs.declared.regrouping.Cause.{Cause}
@@ -22,7 +22,7 @@ use Rattle.ioam_dex.specs.Reader.{Stands, Waits, fed}
 use Rattle.ioam_dex.specs.declared.export.ExportFault.{ExportFault}
 use Rattle.ioam_dex.proofs.ReadsLaws.{Splits-feed}
 use Rattle.ioam_run_answer.proofs.CallLaws.{adds_one}
-use Rattle.ioam_stream.specs.Conversion.{Closes, Converts, StandsSo, StopsSo, TakesOne, NeedsMore, TakesNone, Finishes, SaysPart, SaysLast, Opens, Refills}
+use Rattle.ioam_stream.specs.Conversion.{Closes, Converts, StandsSo, StopsSo, NeedsMore, TakesNone, Finishes, SaysPart, SaysLast, Opens, Refills}
 use Rattle.ioam_stream.specs.Stage.{How, Ended}
 use Rattle.ioam_stream.specs.declared.conversion.Tail.{Tail}
 use Rattle.ioam_stream.specs.declared.conversion.Tail.TheVariants as tail

@@ -5,7 +5,7 @@ ghost use Rattle.ioam_dex.specs.Reader.{Waits, held};
 use ioam_base::fed::PIECE;
 use ioam_base::memory::NoMemory;
 use ioam_collect::{Collector, Key, SIDE_BY_SIDE};
-use ioam_dex::{ExportReader, Step};
+use ioam_dex::{ExportReader, RecordRef, Shown};
 use std::alloc::Global;
 use std::marker::Model;
 
@@ -39,10 +39,10 @@ impl Model for Ahead {
 fn next_key(reader: &mut ExportReader) -> Option<Key>
     ensures { held reader.new ≡ held reader.old }
 {
-    match reader.next() {
-        Step::Export(export) => Key::of(&export),
-        Step::More => None,
-        Step::Bad { .. } => None,
+    match reader.show() {
+        Shown::Record(octets) => Key::of(&RecordRef::new(octets)),
+        Shown::More => None,
+        Shown::Bad { .. } => None,
     }
 }
 
@@ -62,7 +62,7 @@ fn waits(reader: &mut ExportReader) -> bool
     ensures waits { IsTrue result → Waits reader.new }
     ensures held { held reader.new ≡ held reader.old }
 {
-    matches!(reader.next(), Step::More)
+    matches!(reader.show(), Shown::More)
 }
 
 impl Ahead {

@@ -1,13 +1,13 @@
 //! The records that a reader shows, which are regrouped.
 ghost use Rattle.std.specs.Prelude.{◌≡◌, ◌≤◌, IfOk, OnOk, length};
 ghost use Rattle.ioam_dex.specs.Reader.{fed};
-ghost use Rattle.ioam_dex.specs.Record.{HasItsParts, record_of};
+ghost use Rattle.ioam_dex.specs.RecordRef.{content};
 ghost use Rattle.ioam_collect_stream.specs.Gathering.{SaysLimit, Shows, Steps, most_held, most_of};
 
 use crate::ahead::Ahead;
 use ioam_base::memory::NoMemory;
 use ioam_collect::{Collector, MOST_HELD};
-use ioam_dex::{Export, ExportFault, ExportReader, MOST_RECORDS, Step};
+use ioam_dex::{ExportFault, ExportReader, MOST_RECORDS, RecordRef, Shown};
 
 /// What there is another record past.
 #[derive(Clone, Copy)]
@@ -43,9 +43,8 @@ pub(crate) enum Pause {
 
 // Which limit a record passes where as many were read as may be. Where it would be one too many to be
 // held too, that is said.
-fn passed_limit(collector: &mut Collector, export: &Export<'_>) -> Limit
-    requires parts { HasItsParts (record_of export.now) }
-    ensures says { SaysLimit collector.old (record_of export.now) (most_of result) }
+fn passed_limit(collector: &mut Collector, export: &RecordRef<'_>) -> Limit
+    ensures says { SaysLimit collector.old (content export.now) (most_of result) }
     ensures same { collector.new ≡ collector.old }
 {
     if collector.is_full_for(export) {
@@ -62,8 +61,9 @@ fn step(reader: &mut ExportReader, collector: &mut Collector) -> Result<Option<P
     ensures fed { fed reader.new ≡ fed reader.old }
     ensures limit { collector.new.limit ≡ collector.old.limit }
 {
-    match reader.next() {
-        Step::Export(export) => {
+    match reader.show() {
+        Shown::Record(octets) => {
+            let export = RecordRef::new(octets);
             if collector.read() >= u64::from(MOST_RECORDS) {
                 let limit = passed_limit(collector, &export);
                 return Ok(Some(Pause::Limit { limit }));
@@ -74,8 +74,8 @@ fn step(reader: &mut ExportReader, collector: &mut Collector) -> Result<Option<P
             }
             Ok(None)
         }
-        Step::More => Ok(Some(Pause::More)),
-        Step::Bad { at, fault } => Ok(Some(Pause::Bad { at, fault })),
+        Shown::More => Ok(Some(Pause::More)),
+        Shown::Bad { at, fault } => Ok(Some(Pause::Bad { at, fault })),
     }
 }
 
