@@ -58,31 +58,25 @@ impl<'a> Source for Joined<'a> {
     }
 }
 
-// How many records two parts hold together. None where they are too many.
-fn count_of(alloc: Global, one: &[u8], two: &[u8]) -> Result<Option<u32>, NoMemory>
-    ensures { IfOk result (λ count. (xs ys : List Record) → IsPart one.now xs → IsPart two.now ys
-        → Counts (united (keyed xs) (keyed ys)) count) }
+// How many records two parts hold together. None if they are too many.
+fn count_of(one: &PartOctets, two: &PartOctets) -> Option<u32>
+    ensures { (xs ys : List Record) → IsPart one.now xs → IsPart two.now ys → Counts (united (keyed xs) (keyed ys)) result }
 {
-    let mut walk = Walk::new(alloc, one, two)?;
-    Ok(count_both(&mut walk))
+    let mut walk = Walk::new(one, two);
+    count_both(&mut walk)
 }
 
 // What is written of both, or the answer where there is nothing.
-fn make_plan<'a>(alloc: Global, one: &'a [u8], two: &'a [u8]) -> Result<Joined<'a>, Outcome>
+fn make_plan<'a>(one: &'a PartOctets, two: &'a PartOctets) -> Result<Joined<'a>, Outcome>
     ensures { (xs ys : List Record) → IsPart one.now xs → IsPart two.now ys
         → MatchResult result (λ plan. IsPlan xs ys plan.count plan.walk) (RefusesJoined xs ys) }
 {
-    let count = match count_of(alloc, one, two) {
-        Ok(Some(count)) => count,
-        Ok(None) => return Err(Outcome::Records { limit: MOST_HELD }),
-        Err(NoMemory) => return Err(Outcome::NoMemory),
-    };
-    match Walk::new(alloc, one, two) {
-        Ok(walk) => Ok(Joined {
+    match count_of(one, two) {
+        Some(count) => Ok(Joined {
             count: Some(count),
-            walk,
+            walk: Walk::new(one, two),
         }),
-        Err(NoMemory) => Err(Outcome::NoMemory),
+        None => Err(Outcome::Records { limit: MOST_HELD }),
     }
 }
 
@@ -102,7 +96,7 @@ pub(crate) fn write_joined<'a, D: Desk>(
     ensures kept { IsTrue D.tells → KeepsOutputs (D.writing desk.old) (D.writing desk.new) }
     ensures inputs { D.reading desk.new ≡ D.reading desk.old }
 {
-    match make_plan(alloc, first.octets(), second.octets()) {
+    match make_plan(first, second) {
         Ok(plan) => stored_outcome(tell(alloc, desk, part, plan)),
         Err(answer) => answer,
     }

@@ -2,7 +2,7 @@
 ghost use Rattle.std.specs.Prelude.{◌<◌, ◌^◌};
 
 use ioam_collect::{Added, Collector};
-use ioam_dex::export_of;
+use ioam_dex::{RecordRef, export_of};
 use ioam_report_groups::put_groups;
 use ioam_test_rows::digits::octets;
 use std::alloc::Global;
@@ -10,8 +10,10 @@ use std::test::Fail;
 
 // Adds the record of these octets.
 fn add_record(collector: &mut Collector, octets: &[u8]) -> Result<Added, Fail> {
-    let export = export_of(octets).ok_or("no record")?;
-    Ok(collector.add(&export)?)
+    match export_of(octets) {
+        Some(_) => Ok(collector.add(&RecordRef::new(octets))?),
+        None => Err(Fail::from("no record")),
+    }
 }
 
 // Adds the record of these digits.
