@@ -1,9 +1,9 @@
 -- Of what the commands promise: what the top call says of each of them alike.
 use Rattle.std.proofs.Common.{◌≡◌, ◌⊎◌, ℕ, Bool, IsTrue, List, sym, subst}
-use Rattle.ioam_cmd.specs.Promise.{Asked, Keeps}
+use Rattle.ioam_cmd.specs.Promise.{Asked, Keeps, bulk_report}
 use Rattle.ioam_words.specs.declared.command.Command.{Command}
 use Rattle.ioam_words.specs.declared.command.Command.TheVariants.{Filter, Leaks, Paths, Delays, Show, Save, Node, Audit, Run, Bulk, Collect, Ipfix, Records, Part, Merge, Parts}
-use Rattle.ioam_desk.specs.Desk.{Rose, holds}
+use Rattle.ioam_desk.specs.Desk.{Rose}
 use Rattle.ioam_desk.specs.Kept.{KeepsInputs, KeepsOutputs}
 use Rattle.ioam_desk.proofs.KeptLaws.{KeepsInputs-same}
 use Rattle.ioam_run_answer.specs.Entries.{Taken}
@@ -13,12 +13,12 @@ use Rattle.ioam_run_answer.specs.declared.outcome.Outcome.{Outcome}
 use Rattle.ioam_run_answer.specs.declared.outcome.Outcome.TheVariants as outcome
 use Rattle.ioam_run_bulk.specs.Promise as bulk
 use Rattle.ioam_run_collect.specs.Promise as collect
-use Rattle.ioam_run_collect.specs.Promise.{CollectNames}
-use Rattle.ioam_run_ipfix.specs.Promise.{IpfixCause, IpfixKeeps, IpfixNames, RecordsCause, RecordsKeeps, RecordsNames}
-use Rattle.ioam_run_part.specs.Files.{MergeNames, PartNames, PartsNames}
-use Rattle.ioam_run_part.specs.MergePromise.{MergeCause, MergeKeeps}
-use Rattle.ioam_run_part.specs.PartPromise.{PartCause, PartKeeps}
-use Rattle.ioam_run_part.specs.PartsPromise.{PartsCause, PartsKeeps}
+use Rattle.ioam_run_collect.specs.Promise.{collect_names}
+use Rattle.ioam_run_ipfix.specs.Promise.{IpfixKeeps, RecordsKeeps, ipfix_names, records_names}
+use Rattle.ioam_run_part.specs.Files.{merge_names, part_names, parts_names}
+use Rattle.ioam_run_part.specs.MergePromise.{MergeKeeps}
+use Rattle.ioam_run_part.specs.PartPromise.{PartKeeps}
+use Rattle.ioam_run_part.specs.PartsPromise.{PartsKeeps}
 use Rattle.ioam_run_audit.specs.RunStreamPromise as capture
 use Rattle.ioam_run_audit.specs.RunStreamPromise.{CaptureNames}
 
@@ -56,108 +56,30 @@ module _ (desks : Desks) (answer : Outcome) where
     pub kept_in : KeepsInputs desks.old_in desks.new_in
     pub kept_out : IsTrue desks.tells → KeepsOutputs desks.old desks.new
 
+  sound_of : (answer ≡ outcome.Usage → ⊥) → (answer ≡ outcome.ReadFault → Rose desks.old_in.side.faults desks.new_in.side.faults)
+      → (answer ≡ outcome.WriteFault → Rose desks.old.side.faults desks.new.side.faults)
+      → AnswersFailures desks answer → KeepsInputs desks.old_in desks.new_in → (IsTrue desks.tells → KeepsOutputs desks.old desks.new) → Sound
+  sound_of usage read_fault write_fault failures kept_in kept_out = record {
+    usage = usage;
+    read_fault = read_fault;
+    write_fault = write_fault;
+    failures = failures;
+    kept_in = kept_in;
+    kept_out = kept_out;
+  }
+
+  -- of a command whose promise tells the cause of each answer
+  by_cause : {Cause : Outcome → Type 0} (Promise : Outcome → Type 0) → Promise answer → ((a : Outcome) → Promise a → Cause a) → (Cause outcome.Usage → ⊥)
+      → (Cause outcome.ReadFault → Rose desks.old_in.side.faults desks.new_in.side.faults) → (Cause outcome.WriteFault → Rose desks.old.side.faults desks.new.side.faults)
+      → AnswersFailures desks answer → KeepsInputs desks.old_in desks.new_in → (IsTrue desks.tells → KeepsOutputs desks.old desks.new) → Sound
+  by_cause {Cause = Cause} Promise keeps cause usage read_fault write_fault failures kept_in kept_out =
+      sound_of (λ is. usage (subst Cause is (cause answer keeps))) (λ is. read_fault (subst Cause is (cause answer keeps)))
+      (λ is. write_fault (subst Cause is (cause answer keeps))) failures kept_in kept_out
+
   -- of a command over one capture
   of_capture : (Texts : List Taken → List (List ℕ) → Type 0) (files : CaptureNames) → capture.Keeps Texts desks files answer → Sound
   of_capture Texts files keeps =
-      let Cause : Outcome → Type 0 = capture.HasCause desks files in
-      record {
-        usage = λ is. subst Cause is keeps.cause;
-        read_fault = λ is. subst Cause is keeps.cause;
-        write_fault = λ is. subst Cause is keeps.cause;
-        failures = keeps.failures;
-        kept_in = keeps.kept_in;
-        kept_out = keeps.kept_out;
-      }
-
-  of_collect : (files : CollectNames) → collect.Keeps desks files answer → Sound
-  of_collect files keeps =
-      let Cause : Outcome → Type 0 =
-      λ a. collect.HasCause desks.tells (holds desks.old files.exports) files.exports files.report desks.old_in desks.new_in desks.old desks.new a in
-      record {
-        usage = λ is. subst Cause is keeps.cause;
-        read_fault = λ is. subst Cause is keeps.cause;
-        write_fault = λ is. subst Cause is keeps.cause;
-        failures = keeps.failures;
-        kept_in = keeps.kept_in;
-        kept_out = keeps.kept_out;
-      }
-
-  of_ipfix : (files : IpfixNames) → IpfixKeeps desks files answer → Sound
-  of_ipfix files keeps =
-      let Cause : Outcome → Type 0 =
-      λ a. IpfixCause desks.tells (holds desks.old files.exports) files.exports files.out desks.old_in desks.new_in desks.old desks.new a in
-      record {
-        usage = λ is. subst Cause is keeps.cause;
-        read_fault = λ is. subst Cause is keeps.cause;
-        write_fault = λ is. subst Cause is keeps.cause;
-        failures = keeps.failures;
-        kept_in = keeps.kept_in;
-        kept_out = keeps.kept_out;
-      }
-
-  of_records : (files : RecordsNames) → RecordsKeeps desks files answer → Sound
-  of_records files keeps =
-      let Cause : Outcome → Type 0 =
-      λ a. RecordsCause desks.tells (holds desks.old files.input) files.input files.out desks.old_in desks.new_in desks.old desks.new a in
-      record {
-        usage = λ is. subst Cause is keeps.cause;
-        read_fault = λ is. subst Cause is keeps.cause;
-        write_fault = λ is. subst Cause is keeps.cause;
-        failures = keeps.failures;
-        kept_in = keeps.kept_in;
-        kept_out = keeps.kept_out;
-      }
-
-  of_part : (files : PartNames) → PartKeeps desks files answer → Sound
-  of_part files keeps =
-      let Cause : Outcome → Type 0 =
-      λ a. PartCause desks.tells (holds desks.old files.exports) files.exports files.part desks.old_in desks.new_in desks.old desks.new a in
-      record {
-        usage = λ is. subst Cause is keeps.cause;
-        read_fault = λ is. subst Cause is keeps.cause;
-        write_fault = λ is. subst Cause is keeps.cause;
-        failures = keeps.failures;
-        kept_in = keeps.kept_in;
-        kept_out = keeps.kept_out;
-      }
-
-  of_merge : (files : MergeNames) → MergeKeeps desks files answer → Sound
-  of_merge files keeps =
-      let Cause : Outcome → Type 0 =
-      λ a. MergeCause desks.tells (holds desks.old files.one) (holds desks.old files.two) files.one files.two files.part desks.old_in desks.new_in desks.old desks.new a in
-      record {
-        usage = λ is. subst Cause is keeps.cause;
-        read_fault = λ is. subst Cause is keeps.cause;
-        write_fault = λ is. subst Cause is keeps.cause;
-        failures = keeps.failures;
-        kept_in = keeps.kept_in;
-        kept_out = keeps.kept_out;
-      }
-
-  of_parts : (files : PartsNames) → PartsKeeps desks files answer → Sound
-  of_parts files keeps =
-      let Cause : Outcome → Type 0 =
-      λ a. PartsCause desks.tells (holds desks.old files.part) files.part files.report desks.old_in desks.new_in desks.old desks.new a in
-      record {
-        usage = λ is. subst Cause is keeps.cause;
-        read_fault = λ is. subst Cause is keeps.cause;
-        write_fault = λ is. subst Cause is keeps.cause;
-        failures = keeps.failures;
-        kept_in = keeps.kept_in;
-        kept_out = keeps.kept_out;
-      }
-
-  of_bulk : (seed count : ℕ) (report : List ℕ) → bulk.Keeps desks seed count report answer → Sound
-  of_bulk seed count report keeps =
-      let Cause : Outcome → Type 0 = λ a. bulk.HasCause desks.old desks.new a in
-      record {
-        usage = λ is. subst Cause is keeps.cause;
-        read_fault = λ is. absurd (subst Cause is keeps.cause);
-        write_fault = λ is. subst Cause is keeps.cause;
-        failures = keeps.failures;
-        kept_in = KeepsInputs-same desks.old_in desks.new_in keeps.inputs;
-        kept_out = keeps.kept_out;
-      }
+      by_cause (capture.Keeps Texts desks files) keeps (λ a k. k.cause) (λ c. c) (λ c. c) (λ c. c) keeps.failures keeps.kept_in keeps.kept_out
 
 pub sound : (opens : Bool) (desks : Desks) (words : List (List ℕ)) (command : Command) (answer : Outcome) → Keeps opens desks words command answer
     → Sound desks answer
@@ -167,34 +89,24 @@ sound opens desks words Paths answer keeps = of_capture desks answer _ _ keeps
 sound opens desks words (Delays format) answer keeps = of_capture desks answer _ _ keeps
 sound opens desks words Show answer keeps = of_capture desks answer _ _ keeps
 sound opens desks words Save answer keeps = of_capture desks answer _ _ keeps.keeps
-sound opens desks words Node answer keeps = record {
-  usage = keeps.owes.usage;
-  read_fault = keeps.owes.read_fault;
-  write_fault = keeps.owes.write_fault;
-  failures = keeps.failures;
-  kept_in = keeps.owes.kept_in;
-  kept_out = keeps.owes.kept_out;
-}
-sound opens desks words Audit answer keeps = record {
-  usage = keeps.owes.usage;
-  read_fault = keeps.owes.read_fault;
-  write_fault = keeps.owes.write_fault;
-  failures = keeps.failures;
-  kept_in = keeps.owes.kept_in;
-  kept_out = keeps.owes.kept_out;
-}
-sound opens desks words (Run workers) answer keeps = record {
-  usage = keeps.keeps.usage;
-  read_fault = keeps.keeps.read_fault;
-  write_fault = keeps.keeps.write_fault;
-  failures = keeps.keeps.failures;
-  kept_in = keeps.keeps.kept_in;
-  kept_out = keeps.keeps.kept_out;
-}
-sound opens desks words (Bulk seed count workers) answer keeps = of_bulk desks answer seed count _ keeps
-sound opens desks words Collect answer keeps = of_collect desks answer _ keeps
-sound opens desks words Ipfix answer keeps = of_ipfix desks answer _ keeps
-sound opens desks words Records answer keeps = of_records desks answer _ keeps
-sound opens desks words Part answer keeps = of_part desks answer _ keeps
-sound opens desks words Merge answer keeps = of_merge desks answer _ keeps
-sound opens desks words Parts answer keeps = of_parts desks answer _ keeps
+sound opens desks words Node answer keeps =
+    sound_of desks answer keeps.owes.usage keeps.owes.read_fault keeps.owes.write_fault keeps.failures keeps.owes.kept_in keeps.owes.kept_out
+sound opens desks words Audit answer keeps =
+    sound_of desks answer keeps.owes.usage keeps.owes.read_fault keeps.owes.write_fault keeps.failures keeps.owes.kept_in keeps.owes.kept_out
+sound opens desks words (Run workers) answer keeps =
+    let run = keeps.keeps in sound_of desks answer run.usage run.read_fault run.write_fault run.failures run.kept_in run.kept_out
+sound opens desks words (Bulk seed count workers) answer keeps =
+    by_cause desks answer (bulk.Keeps desks seed count (bulk_report words)) keeps (λ a k. k.cause) (λ c. c) (λ c. absurd c) (λ c. c) keeps.failures
+    (KeepsInputs-same desks.old_in desks.new_in keeps.inputs) keeps.kept_out
+sound opens desks words Collect answer keeps =
+    by_cause desks answer (collect.Keeps desks (collect_names words)) keeps (λ a k. k.cause) (λ c. c) (λ c. c) (λ c. c) keeps.failures keeps.kept_in keeps.kept_out
+sound opens desks words Ipfix answer keeps =
+    by_cause desks answer (IpfixKeeps desks (ipfix_names words)) keeps (λ a k. k.cause) (λ c. c) (λ c. c) (λ c. c) keeps.failures keeps.kept_in keeps.kept_out
+sound opens desks words Records answer keeps =
+    by_cause desks answer (RecordsKeeps desks (records_names words)) keeps (λ a k. k.cause) (λ c. c) (λ c. c) (λ c. c) keeps.failures keeps.kept_in keeps.kept_out
+sound opens desks words Part answer keeps =
+    by_cause desks answer (PartKeeps desks (part_names words)) keeps (λ a k. k.cause) (λ c. c) (λ c. c) (λ c. c) keeps.failures keeps.kept_in keeps.kept_out
+sound opens desks words Merge answer keeps =
+    by_cause desks answer (MergeKeeps desks (merge_names words)) keeps (λ a k. k.cause) (λ c. c) (λ c. c) (λ c. c) keeps.failures keeps.kept_in keeps.kept_out
+sound opens desks words Parts answer keeps =
+    by_cause desks answer (PartsKeeps desks (parts_names words)) keeps (λ a k. k.cause) (λ c. c) (λ c. c) (λ c. c) keeps.failures keeps.kept_in keeps.kept_out
