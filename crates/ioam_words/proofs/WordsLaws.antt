@@ -122,7 +122,7 @@ module _ (p q : FormRow → Bool) (found : FormRow) where
 -- the form of a name is found among rows as among what they say
 module _ (name : List ℕ) where
   abbrev in_code : Form → Bool
-  in_code row = bytes_eq row.name.now name
+  in_code row = bytes_eq row.0.now name
 
   abbrev in_table : FormRow → Bool
   in_table row = bytes_eq row.name name
@@ -142,7 +142,7 @@ first_is (word ∷ words) name is = cc is
 
 -- so is the form of the first word, among the rows of the table
 pub form_found : (words : List (List ℕ)) (name : List ℕ) (rows : List Form) (found : Option Form) (first : List ℕ) → name ≡ first → Some first ≡ slice_get words 0 → map row_of rows ≡ forms
-    → found ≡ find (λ row. bytes_eq row.name.now name) rows → form_for words ≡ option_map row_of found
+    → found ≡ find (λ row. bytes_eq row.0.now name) rows → form_for words ≡ option_map row_of found
 unfolding form_for
 form_found words name rows found first same there all is =
     ap (λ (n : List ℕ). find (λ row. bytes_eq row.name n) forms) (sym (same ∙ first_is words first there)) ∙ ap (find (λ row. bytes_eq row.name name)) (sym all)

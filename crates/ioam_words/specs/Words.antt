@@ -35,20 +35,13 @@ IsNoBulk first second third = (seed count workers : ℕ) → IsSeed seed first �
 abbrev pub count_of : Command → ℕ
 count_of Filter = 4
 count_of Leaks = 4
-count_of Paths = 3
 count_of (Delays format) = 4
-count_of Show = 3
-count_of Save = 3
 count_of Node = 9
 count_of Audit = 7
 count_of (Run workers) = 6
 count_of (Bulk seed count workers) = 5
-count_of Collect = 3
-count_of Ipfix = 3
-count_of Records = 3
-count_of Part = 3
 count_of Merge = 4
-count_of Parts = 3
+count_of _ = 3
 
 -- a form: the command's name, what its other words stand for, with spaces between them, how many words there are, and what they spell
 pub record FormRow : Type 0 where
@@ -70,7 +63,7 @@ form name words asks = record { name = name; words = words; count = 2 + count_by
 
 -- what a row of the code's table says
 abbrev pub row_of : Form → FormRow
-row_of row = record { name = row.name.now; words = row.words.now; count = row.count; asks = row.asks }
+row_of row = record { name = row.0.now; words = row.1.now; count = row.2; asks = row.3 }
 
 -- the forms of all commands
 unfoldable pub forms : List FormRow

@@ -1,11 +1,11 @@
 //! The forms of a command line.
-ghost use Rattle.std.specs.Prelude.{◌≡◌, MatchOption, find, length, map};
+ghost use Rattle.std.specs.Prelude.{◌≡◌, ◌↔◌, ℕ, IsTrue, MatchOption, codes, find, length, map};
 ghost use Rattle.std.specs.Option.{option_copied};
 ghost use Rattle.std.specs.Str.{bytes_eq};
-ghost use Rattle.ioam_words.specs.Words.{IsBulk, IsForm, IsNoBulk, IsNoForm, Spells, count_asked, forms, row_of};
+ghost use Rattle.ioam_words.specs.Words.{IsBulk, IsCount, IsForm, IsNoBulk, IsNoForm, IsSeed, IsWorkers, Spells, count_asked, forms, row_of};
 
 use crate::format::format_of;
-use crate::numbers::{count_of, seed_of, workers_of};
+use ioam_base::digits::decimal_below;
 use ioam_base::name::Name;
 use ioam_topo::Format;
 
@@ -59,116 +59,54 @@ pub(crate) enum Asks {
     Load,
 }
 
-/// The form of a command line.
+/// The form of a command line: the command's name, what the other words stand for, how many words
+/// there are with the name, and what they spell.
 #[derive(Clone, Copy)]
-pub(crate) struct Form {
-    /// The command's name, the first word.
-    pub(crate) name: &'static str,
-    /// What the other words stand for, with spaces between them.
-    pub(crate) words: &'static str,
-    /// How many words there are, the name among them.
-    count: usize,
-    asks: Asks,
-}
+pub(crate) struct Form(
+    pub(crate) &'static str,
+    pub(crate) &'static str,
+    usize,
+    Asks,
+);
 
 // What `forms` hands out.
 static FORMS: [Form; 16] = [
-    Form {
-        name: "filter",
-        words: "IN OUT REPORT",
-        count: 4,
-        asks: Asks::Names(Command::Filter),
-    },
-    Form {
-        name: "leaks",
-        words: "IN OUT REPORT",
-        count: 4,
-        asks: Asks::Names(Command::Leaks),
-    },
-    Form {
-        name: "paths",
-        words: "IN REPORT",
-        count: 3,
-        asks: Asks::Names(Command::Paths),
-    },
-    Form {
-        name: "delays",
-        words: "FORMAT IN REPORT",
-        count: 4,
-        asks: Asks::Format,
-    },
-    Form {
-        name: "show",
-        words: "IN REPORT",
-        count: 3,
-        asks: Asks::Names(Command::Show),
-    },
-    Form {
-        name: "save",
-        words: "IN OUT",
-        count: 3,
-        asks: Asks::Names(Command::Save),
-    },
-    Form {
-        name: "node",
-        words: "DOMAIN READINGS NODE LINK IN OUT REPORT EXPORTS",
-        count: 9,
-        asks: Asks::Names(Command::Node),
-    },
-    Form {
-        name: "audit",
-        words: "DOMAIN NODE LINK BEFORE AFTER REPORT",
-        count: 7,
-        asks: Asks::Names(Command::Audit),
-    },
-    Form {
-        name: "run",
-        words: "DOMAIN READINGS WORKERS REPORT EXPORTS",
-        count: 6,
-        asks: Asks::Workers,
-    },
-    Form {
-        name: "bulk",
-        words: "SEED COUNT WORKERS REPORT",
-        count: 5,
-        asks: Asks::Load,
-    },
-    Form {
-        name: "collect",
-        words: "EXPORTS REPORT",
-        count: 3,
-        asks: Asks::Names(Command::Collect),
-    },
-    Form {
-        name: "ipfix",
-        words: "EXPORTS OUT",
-        count: 3,
-        asks: Asks::Names(Command::Ipfix),
-    },
-    Form {
-        name: "records",
-        words: "IN OUT",
-        count: 3,
-        asks: Asks::Names(Command::Records),
-    },
-    Form {
-        name: "part",
-        words: "EXPORTS PART",
-        count: 3,
-        asks: Asks::Names(Command::Part),
-    },
-    Form {
-        name: "merge",
-        words: "ONE TWO PART",
-        count: 4,
-        asks: Asks::Names(Command::Merge),
-    },
-    Form {
-        name: "parts",
-        words: "PART REPORT",
-        count: 3,
-        asks: Asks::Names(Command::Parts),
-    },
+    Form("filter", "IN OUT REPORT", 4, Asks::Names(Command::Filter)),
+    Form("leaks", "IN OUT REPORT", 4, Asks::Names(Command::Leaks)),
+    Form("paths", "IN REPORT", 3, Asks::Names(Command::Paths)),
+    Form("delays", "FORMAT IN REPORT", 4, Asks::Format),
+    Form("show", "IN REPORT", 3, Asks::Names(Command::Show)),
+    Form("save", "IN OUT", 3, Asks::Names(Command::Save)),
+    Form(
+        "node",
+        "DOMAIN READINGS NODE LINK IN OUT REPORT EXPORTS",
+        9,
+        Asks::Names(Command::Node),
+    ),
+    Form(
+        "audit",
+        "DOMAIN NODE LINK BEFORE AFTER REPORT",
+        7,
+        Asks::Names(Command::Audit),
+    ),
+    Form(
+        "run",
+        "DOMAIN READINGS WORKERS REPORT EXPORTS",
+        6,
+        Asks::Workers,
+    ),
+    Form("bulk", "SEED COUNT WORKERS REPORT", 5, Asks::Load),
+    Form(
+        "collect",
+        "EXPORTS REPORT",
+        3,
+        Asks::Names(Command::Collect),
+    ),
+    Form("ipfix", "EXPORTS OUT", 3, Asks::Names(Command::Ipfix)),
+    Form("records", "IN OUT", 3, Asks::Names(Command::Records)),
+    Form("part", "EXPORTS PART", 3, Asks::Names(Command::Part)),
+    Form("merge", "ONE TWO PART", 4, Asks::Names(Command::Merge)),
+    Form("parts", "PART REPORT", 3, Asks::Names(Command::Parts)),
 ];
 
 /// The forms of all commands, in the order in which usage prints them.
@@ -179,20 +117,49 @@ pub(crate) fn forms() -> &'static [Form]
     &FORMS
 }
 
-impl Form {
-    // Whether this is the form of a command of this name.
-    fn is_of(&self, name: &str) -> bool
-        ensures { result ≡ bytes_eq self.now.name.now name.now }
-    {
-        self.name == name
+/// The form of a command's name among these.
+pub(crate) fn form_of<'a>(name: &str, forms: &'a [Form]) -> Option<&'a Form>
+    ensures { option_copied result ≡ find (λ form. bytes_eq form.0.now name.now) forms.now }
+{
+    forms.iter().find(|form| form.0 == name)
+}
+
+// The number of workers that a word spells.
+fn workers_of(word: &Name) -> Option<u32>
+    ensures { MatchOption result ((workers : ℕ) → IsWorkers workers word.now → ⊥) (λ workers. IsWorkers workers word.now) }
+{
+    match decimal_below(word.text().as_bytes(), 65) {
+        Some(0) | None => None,
+        Some(workers) => Some(workers as u32),
     }
 }
 
-/// The form of a command's name among these.
-pub(crate) fn form_of<'a>(name: &str, forms: &'a [Form]) -> Option<&'a Form>
-    ensures { option_copied result ≡ find (λ form. bytes_eq form.name.now name.now) forms.now }
+// The number of arrivals that a word spells.
+fn count_of(word: &Name) -> Option<u32>
+    ensures { MatchOption result ((count : ℕ) → IsCount count word.now → ⊥) (λ count. IsCount count word.now) }
 {
-    forms.iter().find(|form| form.is_of(name))
+    match decimal_below(word.text().as_bytes(), 1_000_001) {
+        Some(0) | None => None,
+        Some(count) => Some(count as u32),
+    }
+}
+
+// Whether a word spells the greatest seed.
+fn is_greatest(word: &Name) -> bool
+    ensures { IsTrue result ↔ (word.now ≡ codes "18446744073709551615") }
+{
+    word.text() == "18446744073709551615"
+}
+
+// The seed that a word spells.
+fn seed_of(word: &Name) -> Option<u64>
+    ensures { MatchOption result ((seed : ℕ) → IsSeed seed word.now → ⊥) (λ seed. IsSeed seed word.now) }
+{
+    // the limit itself can't be read below it
+    if is_greatest(word) {
+        return Some(u64::MAX);
+    }
+    decimal_below(word.text().as_bytes(), u64::MAX)
 }
 
 // The generated load that three words spell.
@@ -234,8 +201,8 @@ pub fn parse(words: &[Name]) -> Option<Command>
 {
     let name = words.first()?;
     let form = form_of(name.text(), forms())?;
-    if words.len() != form.count {
+    if words.len() != form.2 {
         return None;
     }
-    command_of(form.asks, words)
+    command_of(form.3, words)
 }

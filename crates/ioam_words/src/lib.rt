@@ -3,7 +3,6 @@
 
 mod command;
 mod format;
-mod numbers;
 mod usage;
 
 pub use command::{Command, parse};

@@ -4,7 +4,7 @@ use std::io::Eprint;
 
 // Says on standard error what a form is.
 fn say_form<R: Eprint>(rt: &R, form: &Form) {
-    let _ = eprintln!(rt; "ioam: usage: ioam {} {}", form.name, form.words);
+    let _ = eprintln!(rt; "ioam: usage: ioam {} {}", form.0, form.1);
 }
 
 /// Says on standard error the form of the command that the first word names; of all commands if it

@@ -2,7 +2,7 @@ use Rattle.std.proofs.Common.{◌≡◌, ℕ, ◌<◌, List, ◌∙◌, subst, a
 use Rattle.std.specs.Prelude.{◌↔◌, Some, decimal}
 use Rattle.std.proofs.lemmas.Bool.{iff_false}
 use Rattle.ioam_words.proofs.WordsLaws.{greatest, spells_seed}
-use Rattle.ioam_words.proofs.numbers.seed_of.Goals as goal
+use Rattle.ioam_words.proofs.command.seed_of.Goals as goal
 
 pub returns-then-is_greatest : goal.returns-then-is_greatest
 returns-then-is_greatest c = (c.is_greatest.ensures.0 c.if-is_greatest.true ∙ greatest, omega arith)
