@@ -8,6 +8,7 @@ ghost use Rattle.ioam_ip.specs.Framing.{framing_of};
 ghost use Rattle.ioam_ip.specs.Packet.{IsPacket};
 ghost use Rattle.ioam_ip.specs.Rewriting.{options_in};
 ghost use Rattle.ioam_ip.specs.Spot.{spot_end, item_in};
+ghost use Rattle.ioam_ip.specs.declared.layer.Layer.TheVariants as Layer;
 ghost use Rattle.ioam_c.specs.Packet.{OverPacket};
 ghost use Rattle.ioam_c.specs.Next.{AreIoam, Finds, GivesNext, at_least, before_data, described, ioam_among, ioam_in, ioam_of, namespace_of, option_type_of, placed, there_if};
 
@@ -50,7 +51,7 @@ pub extern "C" fn ioam_next_option(
     cursor: &mut usize,
     option: &mut IoamOption,
 ) -> u32
-    ensures { OverPacket (framing_of false false octets.now)
+    ensures { OverPacket (framing_of Layer.Raw false octets.now)
         (λ packet. GivesNext packet cursor.old option.old cursor.new option.new result)
         (λ status. (result ≡ status) × ((cursor.new ≡ cursor.old) × (option.new ≡ option.old))) }
 {

@@ -2,6 +2,7 @@
 ghost use Rattle.std.specs.Prelude.{◌≡◌, false};
 ghost use Rattle.ioam_ip.specs.Framing.{framing_of};
 ghost use Rattle.ioam_ip.specs.Packet.{IsPacket};
+ghost use Rattle.ioam_ip.specs.declared.layer.Layer.TheVariants as Layer;
 ghost use Rattle.ioam_c.specs.Packet.{OverPacket, Checks};
 
 use crate::status::{CHAIN, LENGTH, NOT_IPV6, OK};
@@ -12,7 +13,7 @@ use ioam_ip::{Framed, Walk, packet_of, walk};
 /// with no packet, and `at` stays. What follows the packet is padding.
 #[unsafe(no_mangle)]
 pub extern "C" fn ioam_check(octets: &[u8], at: &mut usize) -> u32
-    ensures { OverPacket (framing_of false false octets.now) (λ packet. Checks packet at.new result) (λ status. (result ≡ status) × (at.new ≡ at.old)) }
+    ensures { OverPacket (framing_of Layer.Raw false octets.now) (λ packet. Checks packet at.new result) (λ status. (result ≡ status) × (at.new ≡ at.old)) }
 {
     match packet_of(false, false, octets) {
         Framed::Packet(packet) => check_chain(packet, at),
