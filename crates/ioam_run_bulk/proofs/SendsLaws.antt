@@ -5,7 +5,7 @@ use Rattle.std.specs.Borrow.{MutBor}
 use Rattle.ioam_run_arrivals.specs.declared.forwarding.Forwarding.{Forwarding}
 use Rattle.ioam_desk_outputs.specs.Told.{Adds, GathersFew, GathersNothing, said_more}
 use Rattle.ioam_desk_outputs.specs.declared.output.Output.{Output}
-use Rattle.ioam_stream.specs.Stage.{Seen, Standing, Begins, Ends, Takes, Feeds, IsFed, IsEnded}
+use Rattle.ioam_stream.specs.Stage.{Seen, Standing, Begins, Ends, Takes, Feeds}
 use Rattle.ioam_run_bulk.specs.Load.{IsSet}
 use Rattle.ioam_run_bulk.specs.Promise.{IsReport}
 use Rattle.ioam_run_bulk.specs.Stage.{HasTaken, Says, Sends, StandsIn, held_in, kind, unfed}
