@@ -1,6 +1,6 @@
 -- Laws of the words that spell numbers, and of which command words are.
 use Rattle.std.proofs.Common.{◌≡◌, ℕ, ◌<◌, Bool, true, false, cond, List, [], ◌∷◌, length, Option, Some, None, IsSomeAnd, option_map, map, slice_get, get_or, refl, sym, ◌∙◌, ap, subst, arith}
-use Rattle.std.specs.Prelude.{◌↔◌, ◌^◌, MatchOption, if◌then◌else◌, codes, decimal, find, nat_eq, nat_lt}
+use Rattle.std.specs.Prelude.{◌↔◌, ◌^◌, ◌≤◌, ⊤, MatchOption, if◌then◌else◌, codes, decimal, find, nat_eq, nat_lt}
 use Rattle.std.specs.List.{list_all}
 use Rattle.std.specs.Str.{bytes_eq}
 use Rattle.std.proofs.lemmas.Bool.{and_parts, eqb-true, ltb-true, ltb-false}
@@ -181,3 +181,46 @@ module _ (words : List (List ℕ)) where
     by_row None many none = λ command is. none command (subst (Spelt command) found is.1)
     by_row (Some command) many spells =
         (many ∙ row_count ∙ sym (spelt_count words row.asks command spells), subst (Spelt command) (sym found) spells)
+
+-- ---- the numbers of a form
+
+-- what the command is run with: 1 to 64 workers, and 1 to 1,000,000 arrivals
+abbrev pub Fits : Command → Type 0
+Fits (Run workers) = (1 ≤ workers) × (workers ≤ 64)
+Fits (Bulk seed count workers) = (1 ≤ count) × (count ≤ 1000000) × (1 ≤ workers) × (workers ≤ 64)
+Fits _ = ⊤
+
+-- a command with numbers is no row's own
+abbrev has_none : Asks → Bool
+has_none (asks.Names (Run workers)) = false
+has_none (asks.Names (Bulk seed count workers)) = false
+has_none asked = true
+
+abbrev row_has_none : FormRow → Bool
+row_has_none row = has_none row.asks
+
+none_has : list_all row_has_none forms ≡ true
+unfolding forms
+none_has = refl
+
+module _ (words : List (List ℕ)) where
+  spelt_fits : (asked : Asks) (command : Command) → has_none asked ≡ true → Spells asked words command → Fits command
+  spelt_fits (asks.Names own) (Run workers) none is = let wrong : false ≡ true = ap (λ c. has_none (asks.Names c)) is ∙ none in absurd (cc wrong)
+  spelt_fits (asks.Names own) (Bulk seed count workers) none is =
+      let wrong : false ≡ true = ap (λ c. has_none (asks.Names c)) is ∙ none in absurd (cc wrong)
+  spelt_fits asks.Format (Run workers) none is = absurd is
+  spelt_fits asks.Format (Bulk seed count workers) none is = absurd is
+  spelt_fits asks.Workers (Run workers) none is = (is.1, is.2)
+  spelt_fits asks.Workers (Bulk seed count workers) none is = absurd is
+  spelt_fits asks.Load (Run workers) none is = absurd is
+  spelt_fits asks.Load (Bulk seed count workers) none is = (is.1.1, is.1.2, is.2.1, is.2.2)
+  spelt_fits asked command none is = tt
+
+  found_fits : (found : Option FormRow) (command : Command) → form_for words ≡ found → IsSomeAnd found (λ row. Spells row.asks words command) → Fits command
+  unfolding form_for
+  found_fits None command found is = absurd is
+  found_fits (Some row) command found is =
+      spelt_fits row.asks command (found_passes (λ r. bytes_eq r.name (name_at words 0)) row_has_none row forms none_has found) is
+
+  pub form_fits : (command : Command) → IsForm command words → Fits command
+  form_fits command is = found_fits (form_for words) command refl is.1
